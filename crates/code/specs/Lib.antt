@@ -1,0 +1,5 @@
+pub mod Codes
+pub mod Fits
+pub mod Kinds
+pub mod Rows
+pub mod Writing
