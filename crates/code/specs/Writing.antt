@@ -25,12 +25,15 @@ map-byte f =
     bit-of 0x01 (f .destination) + bit-of 0x02 (f .first) + bit-of 0x04 (f .second) + bit-of 0x08 (f .target)
     + bit-of 0x10 (f .constant) + bit-of 0x40 (f .slot)
 
--- map and kind, then the fields that are there, in this order
+-- the fields that are there, in this order
+abbrev pub body-bytes : Fields → List ℕ
+body-bytes f =
+    if-there two-bytes (f .destination) ++ (if-there two-bytes (f .first) ++ (if-there two-bytes (f .second)
+    ++ (if-there two-bytes (f .target) ++ (if-there (λ bytes. bytes) (f .constant) ++ if-there two-bytes (f .slot)))))
+
+-- map and kind, then the fields
 abbrev pub row-bytes : Fields → List ℕ
-row-bytes f =
-    map-byte f ∷ f .kind ∷ (if-there two-bytes (f .destination) ++ (if-there two-bytes (f .first)
-    ++ (if-there two-bytes (f .second) ++ (if-there two-bytes (f .target)
-    ++ (if-there (λ bytes. bytes) (f .constant) ++ if-there two-bytes (f .slot))))))
+row-bytes f = map-byte f ∷ f .kind ∷ body-bytes f
 
 abbrev pub rows-bytes : List Fields → List ℕ
 rows-bytes [] = []

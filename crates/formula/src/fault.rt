@@ -1,0 +1,57 @@
+ghost use mathlib.Core.Path.{_≡_};
+ghost use Rattle.formula.specs.Faults.{number-of, place-of};
+ghost use Rattle.formula.specs.declared.fault.FormulaFault.the-variants.{Record};
+use records::RecordFault;
+use records::fault::RecordFaultDebug;
+use records::fault::RecordFaultPartialEq;
+
+// Why a formula is refused, each with the place that the refusal names.
+#[derive(Clone, Copy, PartialEq, Eq, Debug)]
+pub enum FormulaFault {
+    // a part of the input that is no record, or ends early
+    Record(RecordFault),
+    // a header field out of range; its first byte
+    OutOfRange { at: usize },
+    // a padding bit set behind the classes; the byte that holds it
+    PaddingSet { at: usize },
+    // bytes remain behind the records; the first of them
+    BytesRemain { at: usize },
+    // the last record is no jump and no end; its first byte
+    LastGoesOn { at: usize },
+}
+
+pub impl From<RecordFault> for FormulaFault as FormulaFaultFromRecord {
+    ghost converts = { λ e r. r ≡ Record e };
+
+    fn from(fault: RecordFault) -> FormulaFault {
+        FormulaFault::Record(fault)
+    }
+}
+
+impl FormulaFault {
+    // The refusal's number.
+    pub fn number(self) -> u8
+        ensures { λ r. ⌜ r ≡ number-of self ⌝ }
+    {
+        match self {
+            FormulaFault::Record(fault) => fault.number(),
+            FormulaFault::OutOfRange { .. } => 4,
+            FormulaFault::PaddingSet { .. } => 5,
+            FormulaFault::BytesRemain { .. } => 10,
+            FormulaFault::LastGoesOn { .. } => 11,
+        }
+    }
+
+    // The place that the refusal names.
+    pub fn place(self) -> usize
+        ensures { λ r. ⌜ r ≡ place-of self ⌝ }
+    {
+        match self {
+            FormulaFault::Record(fault) => fault.place(),
+            FormulaFault::OutOfRange { at } => at,
+            FormulaFault::PaddingSet { at } => at,
+            FormulaFault::BytesRemain { at } => at,
+            FormulaFault::LastGoesOn { at } => at,
+        }
+    }
+}

@@ -1,0 +1,5 @@
+pub mod Stands
+pub mod Codec
+pub mod FieldCodecs
+pub mod Rows
+pub mod RoundTrip
