@@ -13,8 +13,9 @@ use Rattle.std.specs.declared.option.Option.the-variants.{Some, None}
 use Rattle.std.specs.shelf.Maps.{nth}
 use Rattle.std.proofs.shelf.Lists.{map-more, getD-map, length-take-le}
 use Rattle.std.proofs.shelf.Maps.{nth-getD, nth-past}
-use Rattle.code.specs.Codes.{moves-in, is-move}
+use Rattle.code.specs.Codes.{rows-of, moves-in, is-move}
 use Rattle.code.specs.Rows.{Fields, fields}
+use Rattle.code.specs.declared.body.Code.{Code}
 use Rattle.code.specs.declared.row.Row.{Row}
 
 module _ (rows : List Row) (len : ℕ) (within : len ≤ length rows) where
@@ -41,3 +42,8 @@ pub moves-more : (rows : List Row) (i : ℕ) (d : Row) → i < length rows
 moves-more rows i d h =
     ap moves-in (map-more fields rows i d h)
     ∙ (moves-append (map fields (take i rows)) (fields (getD rows i d) ∷ []) ∙ ap (λ n. moves-in (map fields (take i rows)) + n) (add-zero _))
+
+-- code has as many rows as it counts
+pub code-length : (c : Code) → length (rows-of c) ≡ c .len
+unfolding rows-of
+code-length c = rows-length (c .rows) (c .len) (omega (arith, c .whole, c .room, c .few))

@@ -1,11 +1,20 @@
 -- What the calls answer, as readings.
 use Prim.Native.Nat.{ℕ, _+_}
+use mathlib.Core.List.{List}
+use lib.ListN.{length}
 use Rattle.std.specs.declared.result.Result.{Result}
 use Rattle.std.specs.declared.result.Result.the-variants.{Ok, Err}
+use Rattle.code.specs.Codes.{rows-of}
+use Rattle.records.specs.Faults as records
 use Rattle.records.specs.Reading.{Read, got, bad}
+use Rattle.records.specs.declared.fault.RecordFault.{RecordFault}
 use Rattle.formula.specs.Faults.{number-of, place-of}
+use Rattle.formula.specs.Formulas as formulas
 use Rattle.formula.specs.Headers as headers
+use Rattle.formula.specs.Starts.{starts-from}
 use Rattle.formula.specs.declared.fault.FormulaFault.{FormulaFault}
+use Rattle.formula.specs.declared.formula.Formula.{Formula}
+use Rattle.formula.specs.declared.formula.rows.Body.{Body}
 use Rattle.formula.specs.declared.header.Header.{Header}
 
 -- a value or a fault, where reading a value ends at this place
@@ -17,3 +26,21 @@ read-as meaning (Err fault) next = bad (number-of fault) (place-of fault)
 abbrev pub header-read : Result Header FormulaFault → Read headers.Fields
 header-read (Ok h) = got (headers.header-fields h) (6 + headers.whole-bytes (h .values))
 header-read (Err fault) = bad (number-of fault) (place-of fault)
+
+-- the rows of a formula, where they end and where the last one begins, or a fault
+abbrev pub rows-read : Result Body RecordFault → Read formulas.Rows
+rows-read (Ok b) = got (record { rows = rows-of (b .code); last = b .last }) (b .end)
+rows-read (Err fault) = bad (records.number-of fault) (records.place-of fault)
+
+-- a formula by its meaning
+abbrev pub meaning : Formula → formulas.Formula
+meaning f = formulas.with-rows (headers.header-fields (f .header)) (rows-of (f .code))
+
+-- a formula, which ends with its bytes, or a fault
+abbrev pub formula-read : List ℕ → Result Formula FormulaFault → Read formulas.Formula
+formula-read bytes (Ok f) = got (meaning f) (length bytes)
+formula-read bytes (Err fault) = bad (number-of fault) (place-of fault)
+
+-- the place of each record's first byte
+abbrev pub starts-of : Formula → List ℕ
+starts-of f = starts-from (6 + headers.whole-bytes (f .header .values)) (rows-of (f .code))

@@ -1,5 +1,6 @@
 ghost use Prim.Native.Nat.{_<_, _≤_, _^_};
 
+mod ask;
 mod read;
 
 pub use read::read_header;

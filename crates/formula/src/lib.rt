@@ -1,5 +1,8 @@
 pub mod fault;
+pub mod formula;
 pub mod header;
 
 pub use fault::FormulaFault;
+pub use formula::Formula;
+pub use formula::read_formula;
 pub use header::Header;

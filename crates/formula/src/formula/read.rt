@@ -1,0 +1,36 @@
+ghost use Prim.Native.Nat.{_+_};
+ghost use mathlib.Core.List.{[]};
+ghost use mathlib.Core.Path.{_≡_};
+ghost use Rattle.code.specs.Codes.{rows-of};
+ghost use Rattle.formula.specs.Formulas.{formula-at};
+ghost use Rattle.formula.specs.Outcome.{formula-read};
+use super::Formula;
+use super::rows::read_rows;
+use crate::fault::FormulaFault;
+use crate::fault::FormulaFaultFromRecord;
+use crate::header::Header;
+use crate::header::read_header;
+use code::Code;
+
+// Code with room for the formula's records and no row yet.
+fn empty_code(header: &Header) -> Code
+    ensures { λ r. ⌜ (rows-of r ≡ []) × (r .reach ≡ now (header .entry) .records) × (r .numbers ≡ 32 + now (header .entry) .values) ⌝ }
+{
+    Code::new(32 + header.values() as usize, header.records() as usize).unwrap()
+}
+
+// The formula that these bytes are, or the rule that they break and its place.
+pub fn read_formula(bytes: &[u8]) -> Result<Formula, FormulaFault>
+    ensures value { λ r. ⌜ formula-read (now (bytes .entry)) r ≡ formula-at (now (bytes .entry)) ⌝ }
+{
+    let header = read_header(bytes)?;
+    let body = read_rows(&header.limits(), bytes, header.end(), empty_code(&header))?;
+    if body.end < bytes.len() {
+        return Err(FormulaFault::BytesRemain { at: body.end });
+    }
+    if !body.closed {
+        return Err(FormulaFault::LastGoesOn { at: body.last });
+    }
+    let starts = body.starts;
+    Ok(Formula { header, code: body.code, starts })
+}
