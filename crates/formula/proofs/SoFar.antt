@@ -30,7 +30,7 @@ pub record SoFar (l : Limits) (bytes : List ℕ) (at reach numbers i : ℕ) (cod
   pub began : take i starts ≡ starts-from at (rows-of code)
   pub ended : closed ≡ formulas.closed (rows-of code)
 
-rows-bytes-push : (fs : List Fields) (f : Fields) → rows-bytes (fs ++ (f ∷ [])) ≡ rows-bytes fs ++ row-bytes f
+pub rows-bytes-push : (fs : List Fields) (f : Fields) → rows-bytes (fs ++ (f ∷ [])) ≡ rows-bytes fs ++ row-bytes f
 rows-bytes-push [] f = append-nil (row-bytes f)
 rows-bytes-push (g ∷ fs) f = ap (λ bs. row-bytes g ++ bs) (rows-bytes-push fs f) ∙ sym (append-assoc (row-bytes g) (rows-bytes fs) (row-bytes f))
 

@@ -3,3 +3,4 @@ pub mod Codec
 pub mod FieldCodecs
 pub mod Rows
 pub mod RoundTrip
+pub mod WrittenBytes

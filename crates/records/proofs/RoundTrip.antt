@@ -84,6 +84,12 @@ one-small : (b : Bool) → one-if b ≤ 1
 one-small true = omega arith
 one-small false = omega arith
 
+-- a map is a byte
+pub map-small : (f : Fields) → map-byte f < 256
+map-small f =
+    rw (map-is f) (omega (arith, one-small (isSome (f .destination)), one-small (isSome (f .first)), one-small (isSome (f .second)),
+    one-small (isSome (f .target)), one-small (isSome (f .constant)), one-small (isSome (f .slot))))
+
 -- a bit of the sum is the field's own
 bit-back : (b : Bool) (n : ℕ) → n ≡ one-if b → b ≡ eqb n 1
 bit-back true n e = rw e refl
@@ -158,9 +164,7 @@ module _ (input : List ℕ) (bytes : Bytes input) (l : Limits) (at : ℕ) (f : F
       let has = sum-has (isSome (f .destination)) (isSome (f .first)) (isSome (f .second)) (isSome (f .target)) (isSome (f .constant)) (isSome (f .slot)) m (map-is f) in
       let s₁ = stands-back input at (m ∷ []) (f .kind ∷ body-bytes f) stands in
       let s₂ = stands-back input (at + 1) (f .kind ∷ []) (body-bytes f) s₁ in
-      let small : m < 256 = rw (map-is f) (omega (arith, one-small (isSome (f .destination)), one-small (isSome (f .first)),
-        one-small (isSome (f .second)), one-small (isSome (f .target)), one-small (isSome (f .constant)), one-small (isSome (f .slot)))) in
-      let e₁ = byte-codec input bytes .complete at m (lt-ltb m 256 small) (stands-front input at (m ∷ []) (f .kind ∷ body-bytes f) stands) in
+      let e₁ = byte-codec input bytes .complete at m (lt-ltb m 256 (map-small f)) (stands-front input at (m ∷ []) (f .kind ∷ body-bytes f) stands) in
       let e₂ = byte-codec input bytes .complete (at + 1) (f .kind) (lt-ltb (f .kind) 256 (k .kind)) (stands-front input (at + 1) (f .kind ∷ []) (body-bytes f) s₁) in
       let first = passes-two (short (in-use l)) (λ v. cond (eqb (f .kind) 3) (same-class l (f .destination) v) true) (f .first) (k .first)
         (when-move (eqb (f .kind) 3) (same-class l (f .destination)) (f .first) (λ three. k .classes (eqb-true (f .kind) 3 three))) in
