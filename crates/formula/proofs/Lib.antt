@@ -5,3 +5,4 @@ pub mod ClassBits
 pub mod HeaderTrip
 pub mod RowsTrip
 pub mod FormulaTrip
+pub mod WorkedCases

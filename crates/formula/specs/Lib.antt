@@ -5,3 +5,4 @@ pub mod Keeping
 pub mod Laws
 pub mod Outcome
 pub mod Starts
+pub mod Worked

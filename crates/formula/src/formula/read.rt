@@ -3,7 +3,9 @@ ghost use mathlib.Core.List.{[]};
 ghost use mathlib.Core.Path.{_≡_};
 ghost use Rattle.code.specs.Codes.{rows-of};
 ghost use Rattle.formula.specs.Formulas.{formula-at};
+ghost use Rattle.formula.specs.Laws.{Accepts-writings, Distinct-writings};
 ghost use Rattle.formula.specs.Outcome.{formula-read};
+ghost use Rattle.formula.specs.Worked.{Worked};
 use super::Formula;
 use super::rows::read_rows;
 use crate::fault::FormulaFault;
@@ -22,6 +24,9 @@ fn empty_code(header: &Header) -> Code
 // The formula that these bytes are, or the rule that they break and its place.
 pub fn read_formula(bytes: &[u8]) -> Result<Formula, FormulaFault>
     ensures value { λ r. ⌜ formula-read (now (bytes .entry)) r ≡ formula-at (now (bytes .entry)) ⌝ }
+    ensures accepts { λ r. ⌜ Accepts-writings ⌝ }
+    ensures distinct { λ r. ⌜ Distinct-writings ⌝ }
+    ensures worked { λ r. ⌜ Worked ⌝ }
 {
     let header = read_header(bytes)?;
     let body = read_rows(&header.limits(), bytes, header.end(), empty_code(&header))?;

@@ -6,22 +6,24 @@ use Rattle.std.proofs.shelf.Tests.{lt-ltb, le-ltb, not-true, not-false}
 use Rattle.formula.specs.Formulas.{formula-at, finished}
 use Rattle.formula.specs.Headers.{header-fields}
 use Rattle.formula.proofs.Assembling.{assembled}
+use Rattle.formula.proofs.FormulaTrip.{accepts-writings, distinct-writings}
+use Rattle.formula.proofs.WorkedCases.{worked}
 use Rattle.formula.proofs.formula.read.read_formula.Needs as need
 
 pub returns-in-Break-header : need.returns-in-Break-header
 unfolding formula-at
-returns-in-Break-header c = record { value = search needs }
+returns-in-Break-header c = record { value = search needs; accepts = accepts-writings; distinct = distinct-writings; worked = worked }
 
 pub returns-in-Break-body : need.returns-in-Break-body
 unfolding formula-at
-returns-in-Break-body c = record { value = search needs }
+returns-in-Break-body c = record { value = search needs; accepts = accepts-writings; distinct = distinct-writings; worked = worked }
 
 pub returns-then-body-bytes : need.returns-then-body-bytes
 returns-then-body-bytes c =
     let h = c .in-Continue-header .header in
     let all = assembled (c .args .bytes .now) (header-fields h) _ (c .limits .result) (c .end .result) (c .empty-code .result .reach) _ (c .in-Continue-body .body .end)
       (c .in-Continue-header .ensures tt) (c .limits .ensures) (c .end .ensures) (c .empty-code .ensures .1) (c .in-Continue-body .ensures tt .value) in
-    record { value = sym (all ∙ rw (lt-ltb _ _ (c .if-body-bytes .taken)) refl) }
+    record { value = sym (all ∙ rw (lt-ltb _ _ (c .if-body-bytes .taken)) refl); accepts = accepts-writings; distinct = distinct-writings; worked = worked }
 
 pub returns-then-not-body : need.returns-then-not-body
 returns-then-not-body c =
@@ -29,7 +31,7 @@ returns-then-not-body c =
     let all = assembled (c .args .bytes .now) (header-fields h) _ (c .limits .result) (c .end .result) (c .empty-code .result .reach) _ (c .in-Continue-body .body .end)
       (c .in-Continue-header .ensures tt) (c .limits .ensures) (c .end .ensures) (c .empty-code .ensures .1) (c .in-Continue-body .ensures tt .value) in
     let open-end = sym (c .in-Continue-body .ensures tt .closed) ∙ not-true _ (c .if-not-body .taken) in
-    record { value = sym (all ∙ rw (le-ltb _ _ (c .if-body-bytes .left), open-end) refl) }
+    record { value = sym (all ∙ rw (le-ltb _ _ (c .if-body-bytes .left), open-end) refl); accepts = accepts-writings; distinct = distinct-writings; worked = worked }
 
 pub ghost-result : need.ghost-result
 ghost-result c =
@@ -44,4 +46,4 @@ returns c =
       (c .in-Continue-header .ensures tt) (c .limits .ensures) (c .end .ensures) (c .empty-code .ensures .1) (c .in-Continue-body .ensures tt .value) in
     let was : c .in-Continue-body .body .closed ≡ true = not-false _ (c .if-not-body .left) in
     let ends = sym (c .in-Continue-body .ensures tt .closed) ∙ was in
-    record { value = sym (all ∙ rw (le-ltb _ _ (c .if-body-bytes .left), ends) refl) }
+    record { value = sym (all ∙ rw (le-ltb _ _ (c .if-body-bytes .left), ends) refl); accepts = accepts-writings; distinct = distinct-writings; worked = worked }
