@@ -17,6 +17,7 @@ use Rattle.code.specs.Rows.{Fields}
 use Rattle.code.specs.Writing.{row-bytes, body-bytes, map-byte, bit-of}
 use Rattle.records.specs.InUse.{in-use, below-given}
 use Rattle.records.specs.Keeping.{Stands, Bytes, Keeps, passes, short}
+use Rattle.records.specs.Laws.{Reads-writings}
 use Rattle.records.specs.Reading.{Read, got, bad, then, byte}
 use Rattle.records.specs.Records.{same-class, fields-at, record-at}
 use Rattle.records.specs.declared.limits.Limits.{Limits}
@@ -175,3 +176,6 @@ module _ (input : List ℕ) (bytes : Bytes input) (l : Limits) (at : ℕ) (f : F
       let e₃ = body-complete input bytes l (eqb (f .kind) 3) (f .kind) m ((at + 1) + 1) f b s₂ in
       let place : ((at + 1) + 1) + length (body-bytes f) ≡ at + length (row-bytes f) = omega arith in
       rw (e₁, e₂, k .fields, e₃, place) refl
+
+pub reads-writings : (l : Limits) (input : List ℕ) (at : ℕ) → Reads-writings l input at
+reads-writings l input at bytes f = (record-sound input bytes l at f, record-complete input bytes l at f)

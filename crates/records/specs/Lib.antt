@@ -4,3 +4,4 @@ pub mod Outcome
 pub mod Reading
 pub mod Records
 pub mod Keeping
+pub mod Laws

@@ -5,6 +5,7 @@ ghost use mathlib.Core.Path.{_≡_};
 ghost use Rattle.std.specs.Options.{isSome};
 ghost use Rattle.std.specs.Results.{isErr};
 ghost use Rattle.code.specs.Kinds.{own};
+ghost use Rattle.records.specs.Laws.{Reads-writings};
 ghost use Rattle.records.specs.Outcome.{record-read, read-as, record-fields};
 ghost use Rattle.records.specs.Records.{fields-at, record-at};
 use crate::bodies::Found;
@@ -79,6 +80,7 @@ impl<'a> Reader<'a> {
         ensures value { λ r. ⌜ read-as record-fields r (now (self .exit) .at) ≡ record-at (now (limits .entry)) (now (now (self .entry) .bytes)) (now (self .entry) .at) ⌝ }
         ensures stays { λ r. ⌜ (isErr r ≡ true → now (self .exit) .at ≡ now (self .entry) .at) ⌝ }
         ensures bytes { λ r. ⌜ now (now (self .exit) .bytes) ≡ now (now (self .entry) .bytes) ⌝ }
+        ensures law { λ r. ⌜ Reads-writings (now (limits .entry)) (now (now (self .entry) .bytes)) (now (self .entry) .at) ⌝ }
     {
         let (record, next) = found_at(limits, self.bytes, self.at)?;
         self.at = next;
