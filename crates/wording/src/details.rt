@@ -9,8 +9,8 @@ use records::RecordFault;
 use std::alloc::AllocError;
 use std::alloc::Global;
 
-// The rule that the input breaks, in words: where, what stands there, and what would have been right.
-pub fn explain(heap: Global, bytes: &[u8], fault: FormulaFault) -> Result<String, AllocError> {
+// Where the rule was broken, what stands there and what would have been right.
+pub fn detail(heap: Global, bytes: &[u8], fault: FormulaFault) -> Result<String, AllocError> {
     match fault {
         FormulaFault::Record(fault) => match read_header(bytes) {
             Ok(header) => in_record(heap, bytes, &header, fault),
@@ -24,7 +24,7 @@ pub fn explain(heap: Global, bytes: &[u8], fault: FormulaFault) -> Result<String
 }
 
 fn header_ends(heap: Global, len: usize) -> Result<String, AllocError> {
-    format!(heap, "the input ends early: its {len} bytes do not hold the header, six bytes and one bit for each value\n")
+    format!(heap, "its {len} bytes do not hold the header, six bytes and one bit for each value")
 }
 
 fn out_of_range(heap: Global, bytes: &[u8], at: usize) -> Result<String, AllocError> {
@@ -37,26 +37,26 @@ fn out_of_range(heap: Global, bytes: &[u8], at: usize) -> Result<String, AllocEr
 }
 
 fn out_of(heap: Global, field: &str, found: u16, right: &str, at: usize) -> Result<String, AllocError> {
-    format!(heap, "header field out of range: the number of {field}, at byte {at}, is {found} ({found:X}h); right is {right}\n")
+    format!(heap, "the number of {field}, at byte {at}, is {found} ({found:X}h); right is {right}")
 }
 
 fn padding_set(heap: Global, bytes: &[u8], at: usize) -> Result<String, AllocError> {
     let found = byte(bytes, at);
     let values = number(bytes, 2);
-    format!(heap, "padding bit set: byte {at}, {found:02X}h, is the last of the class bits; the bits above those of the {values} values must be 0\n")
+    format!(heap, "byte {at}, {found:02X}h, is the last of the class bits; the bits above those of the {values} values must be 0")
 }
 
 fn bytes_remain(heap: Global, bytes: &[u8], at: usize) -> Result<String, AllocError> {
     let found = byte(bytes, at);
     let more = bytes.len().saturating_sub(at);
     let records = number(bytes, 4);
-    format!(heap, "bytes remain: the {records} records end before byte {at}, {found:02X}h, and {more} bytes follow; the input must end there\n")
+    format!(heap, "the {records} records end before byte {at}, {found:02X}h, and {more} bytes follow; the input must end there")
 }
 
 fn last_goes_on(heap: Global, bytes: &[u8], at: usize) -> Result<String, AllocError> {
     let kind = byte(bytes, at.saturating_add(1));
     let last = number(bytes, 4).saturating_sub(1);
-    format!(heap, "the last record goes on: record {last}, at byte {at}, has kind {kind:02X}h; the last record must be a jump (04h) or an end (07h)\n")
+    format!(heap, "record {last}, at byte {at}, has kind {kind:02X}h; the last record must be a jump (04h) or an end (07h)")
 }
 
 fn in_record(heap: Global, bytes: &[u8], header: &Header, fault: RecordFault) -> Result<String, AllocError> {
@@ -73,7 +73,7 @@ fn in_record(heap: Global, bytes: &[u8], header: &Header, fault: RecordFault) ->
 
 fn record_ends(heap: Global, spot: Spot, len: usize) -> Result<String, AllocError> {
     let Spot { number, start } = spot;
-    format!(heap, "the input ends early: record {number}, which begins at byte {start}, is not complete at byte {len}, where the input ends\n")
+    format!(heap, "record {number}, which begins at byte {start}, is not complete at byte {len}, where the input ends")
 }
 
 // The maps that a record of this kind may have.
@@ -97,7 +97,7 @@ fn unknown_kind(heap: Global, bytes: &[u8], spot: Spot) -> Result<String, AllocE
     let map = byte(bytes, start);
     let kind = byte(bytes, start.saturating_add(1));
     let right = own_maps(kind);
-    format!(heap, "kind unknown or map not its own: record {number}, at byte {start}, has map {map:02X}h and kind {kind:02X}h; {right}\n")
+    format!(heap, "record {number}, at byte {start}, has map {map:02X}h and kind {kind:02X}h; {right}")
 }
 
 // The name of an operand field by its place in a record with this map.
@@ -117,7 +117,7 @@ fn not_in_use(heap: Global, bytes: &[u8], header: &Header, spot: Spot, at: usize
     let k0 = header.k0();
     let k1 = header.k1();
     let values = header.values();
-    format!(heap, "operand not in use: record {record}, at byte {start}, names {found} ({found:04X}h) as its {field}, at byte {at}; in use are {k0} registers from 0, {k1} from 16 and {values} values from 32\n")
+    format!(heap, "record {record}, at byte {start}, names {found} ({found:04X}h) as its {field}, at byte {at}; in use are {k0} registers from 0, {k1} from 16 and {values} values from 32")
 }
 
 fn between_classes(heap: Global, bytes: &[u8], header: &Header, spot: Spot, at: usize) -> Result<String, AllocError> {
@@ -127,17 +127,17 @@ fn between_classes(heap: Global, bytes: &[u8], header: &Header, spot: Spot, at: 
     let from = number(bytes, at);
     let to_class = limits.class_of(to);
     let from_class = limits.class_of(from);
-    format!(heap, "move between classes: record {record}, at byte {start}, moves {from} ({from:04X}h, at byte {at}) of class {from_class} to {to} of class {to_class}; a move stays within a class\n")
+    format!(heap, "record {record}, at byte {start}, moves {from} ({from:04X}h, at byte {at}) of class {from_class} to {to} of class {to_class}; a move stays within a class")
 }
 
 fn target_too_far(heap: Global, bytes: &[u8], header: &Header, spot: Spot, at: usize) -> Result<String, AllocError> {
     let Spot { number: record, start } = spot;
     let found = number(bytes, at);
     let records = header.records();
-    format!(heap, "target too far: record {record}, at byte {start}, goes to record {found} ({found:04X}h, at byte {at}); targets are below {records}, the number of records\n")
+    format!(heap, "record {record}, at byte {start}, goes to record {found} ({found:04X}h, at byte {at}); targets are below {records}, the number of records")
 }
 
 fn slot_too_far(heap: Global, spot: Spot, at: usize) -> Result<String, AllocError> {
     let Spot { number, start } = spot;
-    format!(heap, "slot too far: record {number}, at byte {start}, names a slot, at byte {at}, that is not below the number of slots\n")
+    format!(heap, "record {number}, at byte {start}, names a slot, at byte {at}, that is not below the number of slots")
 }

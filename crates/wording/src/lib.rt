@@ -1,0 +1,5 @@
+mod details;
+mod spot;
+pub mod words;
+
+pub use words::explain;
