@@ -10,7 +10,12 @@ use formula::FormulaFault;
 use std::alloc::AllocError;
 use std::alloc::Global;
 
-fn three_lines(heap: Global, records: usize, values: u16, moves: usize) -> Result<String, AllocError>
+fn three_lines(
+    heap: Global,
+    records: usize,
+    values: u16,
+    moves: usize,
+) -> Result<String, AllocError>
     ensures { λ r. ⌜ made r (λ s. string-bytes s ≡ accepted-lines records values moves) ⌝ }
 {
     format!(heap, "records {records}\nvalues {values}\nmoves {moves}\n")
@@ -26,7 +31,12 @@ fn one_line(heap: Global, number: u8, place: usize) -> Result<String, AllocError
 pub fn accepted(heap: Global, formula: &Formula) -> Result<String, AllocError>
     ensures { λ r. ⌜ made r (λ s. string-bytes s ≡ accepted-lines (length (rows-of (now (formula .entry) .code))) (now (formula .entry) .header .values) (moves-in (rows-of (now (formula .entry) .code)))) ⌝ }
 {
-    three_lines(heap, formula.code().len(), formula.header().values(), formula.moves())
+    three_lines(
+        heap,
+        formula.code().len(),
+        formula.header().values(),
+        formula.moves(),
+    )
 }
 
 // The line for a refusal: its number and its place.

@@ -9,7 +9,7 @@ use Rattle.formula.specs.Headers as headers
 use Rattle.formula.specs.Headers.{header-at, limits-of}
 
 pub assembled : (bytes : List ℕ) (h : headers.Fields) (p : ℕ) (l : Limits) (at n : ℕ) (r : Rows) (q : ℕ) → got h p ≡ header-at bytes
-  → l ≡ limits-of h → at ≡ p → n ≡ h .records → got r q ≡ rows-at l bytes at n → formula-at bytes ≡ finished bytes h r q
+    → l ≡ limits-of h → at ≡ p → n ≡ h .records → got r q ≡ rows-at l bytes at n → formula-at bytes ≡ finished bytes h r q
 unfolding formula-at
 assembled bytes h p l at n r q header limits place count rows =
     let all : rows-at (limits-of h) bytes p (h .records) ≡ got r q = cc in

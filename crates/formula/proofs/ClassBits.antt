@@ -47,7 +47,7 @@ stands-fits input at xs inside stands =
 
 module _ (input : List ℕ) (bytes : Bytes input) (values at : ℕ) where
   pub bits-sound : (c q : ℕ) → class-bits values input at ≡ got c q
-    → (q ≡ at + length (bytes-of (whole-bytes values) c)) × Stands input at (bytes-of (whole-bytes values) c) × (c < 2 ^ values)
+      → (q ≡ at + length (bytes-of (whole-bytes values) c)) × Stands input at (bytes-of (whole-bytes values) c) × (c < 2 ^ values)
   bits-sound c q e =
       then-elim (part (whole-bytes values) input at) _ c q e (λ xs p r e′.
       let s = part-sound input bytes (whole-bytes values) at xs p r in
@@ -56,7 +56,7 @@ module _ (input : List ℕ) (bytes : Bytes input) (values at : ℕ) where
       rw (← t .1, ← t .2, back) (s .0, s .1, ltb-true (number xs) (2 ^ values) (t .0)))
 
   pub bits-complete : (c : ℕ) → at ≤ length input → c < 2 ^ values → Stands input at (bytes-of (whole-bytes values) c)
-    → class-bits values input at ≡ got c (at + whole-bytes values)
+      → class-bits values input at ≡ got c (at + whole-bytes values)
   bits-complete c inside less stands =
       let long = length-bytes-of (whole-bytes values) c in
       let within : at + whole-bytes values ≤ length input = omega (arith, stands-fits input at (bytes-of (whole-bytes values) c) inside stands) in

@@ -28,8 +28,8 @@ use Rattle.formula.proofs.HeaderTrip.{written, Ranges, header-sound, header-co
 use Rattle.formula.proofs.RowsTrip.{rows-sound, rows-complete}
 
 finished-elim : {C : Type 0} (left shut : Bool) (place n last : ℕ) (g f : Formula) (q : ℕ)
-  → cond left (bad 10 place) (cond shut (got g n) (bad 11 last)) ≡ got f q
-  → (left ≡ false → shut ≡ true → g ≡ f → C) → C
+    → cond left (bad 10 place) (cond shut (got g n) (bad 11 last)) ≡ got f q
+    → (left ≡ false → shut ≡ true → g ≡ f → C) → C
 finished-elim true shut place n last g f q e use-it = absurd (never e)
 finished-elim false true place n last g f q e use-it = use-it refl refl (got-value e)
 finished-elim false false place n last g f q e use-it = absurd (never e)
@@ -44,11 +44,18 @@ reaching h n = record { k0 = h .k0; k1 = h .k1; values = h .values; classes = h 
 
 -- a header and the rows that it counts
 keeps-with : (h : headers.Fields) (rows : List Fields) → length rows ≡ h .records → Ranges h → All-keep (limits-of h) rows → closed rows ≡ true
-  → Keeps (with-rows h rows)
+    → Keeps (with-rows h rows)
 keeps-with h rows count k all shut = record {
-  k0-least = k .k0-least; k0-most = k .k0-most; k1-least = k .k1-least; k1-most = k .k1-most; few-values = k .few-values;
-  some-rows = rw count (k .some-rows); few-rows = rw count (k .few-rows); class-bits = k .class-bits;
-  rows = subst (λ n. All-keep (reaching h n) rows) (sym count) all; last = shut;
+  k0-least = k .k0-least;
+  k0-most = k .k0-most;
+  k1-least = k .k1-least;
+  k1-most = k .k1-most;
+  few-values = k .few-values;
+  some-rows = rw count (k .some-rows);
+  few-rows = rw count (k .few-rows);
+  class-bits = k .class-bits;
+  rows = subst (λ n. All-keep (reaching h n) rows) (sym count) all;
+  last = shut;
 }
 
 -- a formula's own header
@@ -67,7 +74,7 @@ module _ (input : List ℕ) (ok : Bytes input) (f : Formula) where
       let bytes = written h ++ rows-bytes (r .rows) in
       let all : Stands input 0 bytes = stands-next input 0 p (written h) (rows-bytes (r .rows)) (head .0 ∙ sym (zero-add (length (written h)))) (head .1) (rows .1) in
       let long : length input ≤ length bytes =
-        rw length-append (omega (arith, ltb-false q (length input) none, head .0, rows .0)) in
+      rw length-append (omega (arith, ltb-false q (length input) none, head .0, rows .0)) in
       let same : formula-bytes (with-rows h (r .rows)) ≡ bytes = rw (rows .3) refl in
       rw (← is) (whole-input input bytes all long ∙ sym same, keeps-with h (r .rows) (rows .3) (head .2) (rows .2) shut))))
 
@@ -78,8 +85,14 @@ module _ (input : List ℕ) (ok : Bytes input) (f : Formula) where
       let h = header-of f in
       let all : Stands input 0 (formula-bytes f) = rw (e .0) (take-all (length (formula-bytes f)) (formula-bytes f) (le-refl _)) in
       let ranges : Ranges h = record {
-        k0-least = k .k0-least; k0-most = k .k0-most; k1-least = k .k1-least; k1-most = k .k1-most; few-values = k .few-values;
-        some-rows = k .some-rows; few-rows = k .few-rows; class-bits = k .class-bits;
+        k0-least = k .k0-least;
+        k0-most = k .k0-most;
+        k1-least = k .k1-least;
+        k1-most = k .k1-most;
+        few-values = k .few-values;
+        some-rows = k .some-rows;
+        few-rows = k .few-rows;
+        class-bits = k .class-bits;
       } in
       let head = header-complete input ok h ranges (stands-front input 0 (written h) (rows-bytes (f .rows)) all) in
       let back = stands-back input 0 (written h) (rows-bytes (f .rows)) all in

@@ -42,7 +42,7 @@ keeps-fits l row few₀ few₁ k =
 
 -- so code with room takes it
 pub granted : (l : Limits) (code : Code) (row : Row) → l .k0 ≤ 16 → l .k1 ≤ 16 → code .reach ≡ l .targets → code .numbers ≡ 32 + l .values
-  → length (rows-of code) < code .reach → Keeps l (fields row) → takes code row ≡ true
+    → length (rows-of code) < code .reach → Keeps l (fields row) → takes code row ≡ true
 granted l code row few₀ few₁ reach numbers room k =
     let less : code .len < code .reach = omega (arith, code-length code) in
     and-from (ltb (code .len) (code .reach)) (row-fits (code .numbers) (code .reach) row)

@@ -48,7 +48,7 @@ module _ (input : List ℕ) (bytes : Bytes input) where
   two-ranged low high = and-checked input (two input) two-bytes (λ b. ltb b 65536) (λ n. leb low n && leb n high) 4 (two-codec input bytes)
 
   pub header-sound : (h : headers.Fields) (q : ℕ) → header-at input ≡ got h q
-    → (q ≡ length (written h)) × Stands input 0 (written h) × Ranges h
+      → (q ≡ length (written h)) × Stands input 0 (written h) × Ranges h
   unfolding header-at
   header-sound h q e =
       then-elim (ranged 1 16 (byte input) 0) _ h q e (λ k0 p₁ r₁ e₁.
@@ -65,16 +65,23 @@ module _ (input : List ℕ) (bytes : Bytes input) where
       let i₂ = within 1 16 k1 (and-parts (ltb k1 256) (leb 1 k1 && leb k1 16) (w₂ .2) .1) in
       let i₃ = within 0 96 v (and-parts (ltb v 65536) (leb 0 v && leb v 96) (w₃ .2) .1) in
       let i₄ = within 1 128 n (and-parts (ltb n 65536) (leb 1 n && leb n 128) (w₄ .2) .1) in
-      rw (← got-value e₅, ← got-place e₅)
-      (omega (arith, w₁ .0, w₂ .0, w₃ .0, w₄ .0, w₅ .0),
-       stands-next input 0 p₁ (k0 ∷ []) _ (w₁ .0) (w₁ .1)
-       (stands-next input p₁ p₂ (k1 ∷ []) _ (w₂ .0) (w₂ .1)
-       (stands-next input p₂ p₃ (two-bytes v) _ (w₃ .0) (w₃ .1)
-       (stands-next input p₃ p₄ (two-bytes n) _ (w₄ .0) (w₄ .1) (w₅ .1)))),
-       record {
-         k0-least = i₁ .0; k0-most = i₁ .1; k1-least = i₂ .0; k1-most = i₂ .1; few-values = i₃ .1; some-rows = i₄ .0; few-rows = i₄ .1;
-         class-bits = w₅ .2;
-       }))))))
+      rw (← got-value e₅, ← got-place e₅) (
+        omega (arith, w₁ .0, w₂ .0, w₃ .0, w₄ .0, w₅ .0),
+        stands-next input 0 p₁ (k0 ∷ []) _ (w₁ .0) (w₁ .1)
+            (stands-next input p₁ p₂ (k1 ∷ []) _ (w₂ .0) (w₂ .1)
+            (stands-next input p₂ p₃ (two-bytes v) _ (w₃ .0) (w₃ .1)
+            (stands-next input p₃ p₄ (two-bytes n) _ (w₄ .0) (w₄ .1) (w₅ .1)))),
+        record {
+          k0-least = i₁ .0;
+          k0-most = i₁ .1;
+          k1-least = i₂ .0;
+          k1-most = i₂ .1;
+          few-values = i₃ .1;
+          some-rows = i₄ .0;
+          few-rows = i₄ .1;
+          class-bits = w₅ .2;
+        },
+      ))))))
 
   pub header-complete : (h : headers.Fields) → Ranges h → Stands input 0 (written h) → header-at input ≡ got h (length (written h))
   unfolding header-at
@@ -87,17 +94,17 @@ module _ (input : List ℕ) (bytes : Bytes input) where
       let s₃ = stands-back input 2 (two-bytes (h .values)) t₄ s₂ in
       let s₄ = stands-back input 4 (two-bytes (h .records)) bits s₃ in
       let e₁ = byte-ranged 1 16 .complete 0 (h .k0)
-        (and-from _ _ (lt-ltb (h .k0) 256 (omega (arith, k .k0-most))) (inside 1 16 (h .k0) (k .k0-least) (k .k0-most)))
-        (stands-front input 0 (h .k0 ∷ []) (h .k1 ∷ t₃) stands) in
+      (and-from _ _ (lt-ltb (h .k0) 256 (omega (arith, k .k0-most))) (inside 1 16 (h .k0) (k .k0-least) (k .k0-most)))
+      (stands-front input 0 (h .k0 ∷ []) (h .k1 ∷ t₃) stands) in
       let e₂ = byte-ranged 1 16 .complete 1 (h .k1)
-        (and-from _ _ (lt-ltb (h .k1) 256 (omega (arith, k .k1-most))) (inside 1 16 (h .k1) (k .k1-least) (k .k1-most)))
-        (stands-front input 1 (h .k1 ∷ []) t₃ s₁) in
+      (and-from _ _ (lt-ltb (h .k1) 256 (omega (arith, k .k1-most))) (inside 1 16 (h .k1) (k .k1-least) (k .k1-most)))
+      (stands-front input 1 (h .k1 ∷ []) t₃ s₁) in
       let e₃ = two-ranged 0 96 .complete 2 (h .values)
-        (and-from _ _ (lt-ltb (h .values) 65536 (omega (arith, k .few-values))) (inside 0 96 (h .values) (omega arith) (k .few-values)))
-        (stands-front input 2 (two-bytes (h .values)) t₄ s₂) in
+      (and-from _ _ (lt-ltb (h .values) 65536 (omega (arith, k .few-values))) (inside 0 96 (h .values) (omega arith) (k .few-values)))
+      (stands-front input 2 (two-bytes (h .values)) t₄ s₂) in
       let e₄ = two-ranged 1 128 .complete 4 (h .records)
-        (and-from _ _ (lt-ltb (h .records) 65536 (omega (arith, k .few-rows))) (inside 1 128 (h .records) (k .some-rows) (k .few-rows)))
-        (stands-front input 4 (two-bytes (h .records)) bits s₃) in
+      (and-from _ _ (lt-ltb (h .records) 65536 (omega (arith, k .few-rows))) (inside 1 128 (h .records) (k .some-rows) (k .few-rows)))
+      (stands-front input 4 (two-bytes (h .records)) bits s₃) in
       let six : 6 ≤ length input = omega (arith, stands-within input 0 (h .k0) (h .k1 ∷ t₃) stands) in
       let e₅ = bits-complete input bytes (h .values) 6 (h .classes) six (k .class-bits) s₄ in
       rw (e₁, e₂, e₃, e₄, e₅) (ap (got h) (omega (arith, length-bytes-of (whole-bytes (h .values)) (h .classes))))

@@ -39,11 +39,12 @@ module _ (input : List ℕ) (bytes : Bytes input) (l : Limits) where
       let before = rows-sound at n r₀ p e₁ in
       let here = record-sound input bytes l p f p₁ e₃ in
       let push = rows-bytes-push (r₀ .rows) f in
-      rw (← got-value e₄, ← got-place e₄, push)
-      (here .0 ∙ rw (before .0) (simp length-append (omega arith)),
-       stands-next input at p (rows-bytes (r₀ .rows)) (row-bytes f) (before .0) (before .1) (here .1),
-       all-keep-push l (r₀ .rows) f (before .2) (here .2),
-       length-push (r₀ .rows) f ∙ (add-one (length (r₀ .rows)) ∙ ap suc (before .3)))))
+      rw (← got-value e₄, ← got-place e₄, push) (
+        here .0 ∙ rw (before .0) (simp length-append (omega arith)),
+        stands-next input at p (rows-bytes (r₀ .rows)) (row-bytes f) (before .0) (before .1) (here .1),
+        all-keep-push l (r₀ .rows) f (before .2) (here .2),
+        length-push (r₀ .rows) f ∙ (add-one (length (r₀ .rows)) ∙ ap suc (before .3)),
+      )))
 
   -- the rows behind those that were read
   abbrev Read-on : ℕ → List Fields → List Fields → ℕ → Type 0
@@ -51,18 +52,18 @@ module _ (input : List ℕ) (bytes : Bytes input) (l : Limits) where
       (last : ℕ) × (rows-at l input at (length (ps ++ fs)) ≡ got (record { rows = ps ++ fs; last = last }) (place + length (rows-bytes fs)))
 
   rows-on : (at : ℕ) (fs ps : List Fields) (last place : ℕ)
-    → rows-at l input at (length ps) ≡ got (record { rows = ps; last = last }) place
-    → All-keep l fs → Stands input place (rows-bytes fs) → Read-on at ps fs place
+      → rows-at l input at (length ps) ≡ got (record { rows = ps; last = last }) place
+      → All-keep l fs → Stands input place (rows-bytes fs) → Read-on at ps fs place
   rows-on at [] ps last place e all stands = (last, rw (append-nil ps, add-zero place) e)
   rows-on at (f ∷ fs) ps last place e all stands =
       let here = record-complete input bytes l place f (all .0) (stands-front input place (row-bytes f) (rows-bytes fs) stands) in
       let more : rows-at l input at (length (ps ++ (f ∷ []))) ≡ got (record { rows = ps ++ (f ∷ []); last = place }) (place + length (row-bytes f)) =
-        rw (length-push ps f, add-one, e, here) refl in
+      rw (length-push ps f, add-one, e, here) refl in
       let rest = rows-on at fs (ps ++ (f ∷ [])) place (place + length (row-bytes f)) more (all .1) (stands-back input place (row-bytes f) (rows-bytes fs) stands) in
       let same : (ps ++ (f ∷ [])) ++ fs ≡ ps ++ (f ∷ fs) = append-assoc ps (f ∷ []) fs in
       let end : (place + length (row-bytes f)) + length (rows-bytes fs) ≡ place + length (row-bytes f ++ rows-bytes fs) = simp length-append (omega arith) in
       (rest .0, rw (same, end) at (rest .1))
 
   pub rows-complete : (at : ℕ) (fs : List Fields) → All-keep l fs → Stands input at (rows-bytes fs)
-    → (last : ℕ) × (rows-at l input at (length fs) ≡ got (record { rows = fs; last = last }) (at + length (rows-bytes fs)))
+      → (last : ℕ) × (rows-at l input at (length fs) ≡ got (record { rows = fs; last = last }) (at + length (rows-bytes fs)))
   rows-complete at fs all stands = rows-on at fs [] at at refl all stands

@@ -52,24 +52,31 @@ rows-bad l bytes at i (suc d) n p e = rw (add-suc i d, rows-bad l bytes at i d n
 
 module _ (l : Limits) (bytes : List ℕ) (at reach numbers : ℕ) where
   pub so-far-none : (code : Code) (starts : List ℕ) → rows-of code ≡ [] → code .reach ≡ reach → code .numbers ≡ numbers → length starts ≡ 128
-    → SoFar l bytes at reach numbers 0 code starts at false at
+      → SoFar l bytes at reach numbers 0 code starts at false at
   so-far-none code starts none r n whole = record {
-    value = rw none refl; placed = rw none (sym (add-zero at)); reached = r; numbered = n; many = rw none refl;
-    whole = whole; began = rw none refl; ended = rw none refl;
+    value = rw none refl;
+    placed = rw none (sym (add-zero at));
+    reached = r;
+    numbered = n;
+    many = rw none refl;
+    whole = whole;
+    began = rw none refl;
+    ended = rw none refl;
   }
 
   pub so-far-more : (i : ℕ) (code : Code) (starts : List ℕ) (last : ℕ) (closed : Bool) (place : ℕ)
-    → SoFar l bytes at reach numbers i code starts last closed place → Bytes bytes → i < 128
-    → (f : Fields) (q : ℕ) (code′ : Code) → record-at l bytes place ≡ got f q
-    → rows-of code′ ≡ rows-of code ++ (f ∷ []) → code′ .reach ≡ code .reach → code′ .numbers ≡ code .numbers
-    → SoFar l bytes at reach numbers (i + 1) code′ (set starts i place) place (formulas.goes-nowhere f) q
+      → SoFar l bytes at reach numbers i code starts last closed place → Bytes bytes → i < 128
+      → (f : Fields) (q : ℕ) (code′ : Code) → record-at l bytes place ≡ got f q
+      → rows-of code′ ≡ rows-of code ++ (f ∷ []) → code′ .reach ≡ code .reach → code′ .numbers ≡ code .numbers
+      → SoFar l bytes at reach numbers (i + 1) code′ (set starts i place) place (formulas.goes-nowhere f) q
   so-far-more i code starts last closed place so ok less f q code′ e rows r n =
       let sound = record-sound bytes ok l place f q e in
       let inside : i < length starts = omega (arith, so .whole) in
       record {
         value = rw (rows, add-one, so .value, e) refl;
         placed = sound .0 ∙ rw (rows, rows-bytes-push (rows-of code) f, so .placed) (simp length-append (omega arith));
-        reached = r ∙ so .reached; numbered = n ∙ so .numbered;
+        reached = r ∙ so .reached;
+        numbered = n ∙ so .numbered;
         many = rw (rows, length-push (rows-of code) f, so .many) refl;
         whole = rw length-set (so .whole);
         began = rw (rows, take-more-set starts i place inside, so .began, starts-push at (rows-of code) f, so .placed) refl;
@@ -78,8 +85,8 @@ module _ (l : Limits) (bytes : List ℕ) (at reach numbers : ℕ) where
 
   -- a record that is refused is a refusal of all of them
   pub so-far-bad : (i : ℕ) (code : Code) (starts : List ℕ) (last : ℕ) (closed : Bool) (place : ℕ)
-    → SoFar l bytes at reach numbers i code starts last closed place → (m n p : ℕ) → i < m → record-at l bytes place ≡ bad n p
-    → formulas.rows-at l bytes at m ≡ bad n p
+      → SoFar l bytes at reach numbers i code starts last closed place → (m n p : ℕ) → i < m → record-at l bytes place ≡ bad n p
+      → formulas.rows-at l bytes at m ≡ bad n p
   so-far-bad i code starts last closed place so m n p less e =
       let here : formulas.rows-at l bytes at (suc i) ≡ bad n p = rw (so .value, e) refl in
       let all = rows-bad l bytes at (suc i) (m - suc i) n p here in

@@ -8,5 +8,11 @@ use Rattle.formula.specs.Worked.{Worked}
 pub worked : Worked
 unfolding formula-at header-at record-at
 worked = record {
-  empty = refl; too-many-values = refl; most-values = refl; no-records = refl; accepted = refl; five-records = refl; one-move = refl;
+  empty = refl;
+  too-many-values = refl;
+  most-values = refl;
+  no-records = refl;
+  accepted = refl;
+  five-records = refl;
+  one-move = refl;
 }

@@ -11,8 +11,8 @@ use Rattle.formula.specs.Keeping.{formula-bytes, Keeps}
 -- bytes are accepted as this formula exactly when they are its writing and it keeps the rules
 abbrev pub Accepts-writings : Type 0
 Accepts-writings = (input : List ℕ) → Bytes input → (f : Formula)
-  → (formula-at input ≡ got f (length input) → (input ≡ formula-bytes f) × Keeps f)
-  × ((input ≡ formula-bytes f) × Keeps f → formula-at input ≡ got f (length input))
+    → (formula-at input ≡ got f (length input) → (input ≡ formula-bytes f) × Keeps f)
+    × ((input ≡ formula-bytes f) × Keeps f → formula-at input ≡ got f (length input))
 
 -- two different formulas never have the same bytes
 abbrev pub Distinct-writings : Type 0

@@ -22,12 +22,12 @@ never e = let z : _≡_ {A = ℕ} 0 1 = cc in omega arith
 
 -- what was read first where reading on came to an end
 pub then-elim : {A B C : Type 0} (x : Read A) (f : A → ℕ → Read B) (b : B) (q : ℕ) → then x f ≡ got b q
-  → ((a : A) (p : ℕ) → x ≡ got a p → f a p ≡ got b q → C) → C
+    → ((a : A) (p : ℕ) → x ≡ got a p → f a p ≡ got b q → C) → C
 then-elim (got a p) f b q e use-it = use-it a p refl e
 then-elim (bad n at) f b q e use-it = absurd (never e)
 
 pub then-got : {A B : Type 0} (x : Read A) (f : A → ℕ → Read B) (b : B) (q : ℕ) → then x f ≡ got b q
-  → (a : A) × (p : ℕ) × (x ≡ got a p) × (f a p ≡ got b q)
+    → (a : A) × (p : ℕ) × (x ≡ got a p) × (f a p ≡ got b q)
 then-got x f b q e = then-elim x f b q e (λ a p r s. (a, p, r, s))
 
 pub got-value : {A : Type 0} {a b : A} {p q : ℕ} → got a p ≡ got b q → a ≡ b
@@ -53,24 +53,24 @@ pub record Codec {A : Type 0} (input : List ℕ) (read : ℕ → Read A) (write 
 
 -- a further check behind a reader
 pub and-checked : {A : Type 0} (input : List ℕ) (read : ℕ → Read A) (write : A → List ℕ) (ok test : A → Bool) (number : ℕ)
-  → Codec input read write ok
-  → Codec input (λ at. then (read at) (λ v next. checked (test v) number at v next)) write (λ a. ok a && test a)
+    → Codec input read write ok
+    → Codec input (λ at. then (read at) (λ v next. checked (test v) number at v next)) write (λ a. ok a && test a)
 and-checked input read write ok test number c = record {
   sound = λ at a q e.
-    let s = then-got (read at) (λ v next. checked (test v) number at v next) a q e in
-    let t = checked-got (test (s .0)) number at (s .0) a (s .1) q (s .3) in
-    let r : read at ≡ got a q = s .2 ∙ ap₂ got (t .1) (t .2) in
-    let w = c .sound at a q r in
-    (w .0, w .1, and-from (ok a) (test a) (w .2) (ap test (sym (t .1)) ∙ t .0));
+      let s = then-got (read at) (λ v next. checked (test v) number at v next) a q e in
+      let t = checked-got (test (s .0)) number at (s .0) a (s .1) q (s .3) in
+      let r : read at ≡ got a q = s .2 ∙ ap₂ got (t .1) (t .2) in
+      let w = c .sound at a q r in
+      (w .0, w .1, and-from (ok a) (test a) (w .2) (ap test (sym (t .1)) ∙ t .0));
   complete = λ at a both stands.
-    let parts = and-parts (ok a) (test a) both in
-    rw (c .complete at a (parts .0) stands, parts .1) refl;
+      let parts = and-parts (ok a) (test a) both in
+      rw (c .complete at a (parts .0) stands, parts .1) refl;
 }
 
 -- a field that may be missing
 pub if-there-sound : {A : Type 0} (input : List ℕ) (read : ℕ → Read A) (write : A → List ℕ) (ok : A → Bool) → Codec input read write ok
-  → (b : Bool) (at : ℕ) (o : Option A) (q : ℕ) → if-there b read at ≡ got o q
-  → (q ≡ at + length (writing.if-there write o)) × Stands input at (writing.if-there write o) × (passes ok o ≡ true) × (isSome o ≡ b)
+    → (b : Bool) (at : ℕ) (o : Option A) (q : ℕ) → if-there b read at ≡ got o q
+    → (q ≡ at + length (writing.if-there write o)) × Stands input at (writing.if-there write o) × (passes ok o ≡ true) × (isSome o ≡ b)
 if-there-sound input read write ok c false at o q e =
     let e₀ : None ≡ o = got-value e in
     rw (← e₀) (sym (got-place e) ∙ sym (add-zero at), refl, refl, refl)
@@ -81,8 +81,8 @@ if-there-sound {A} input read write ok c true at o q e =
     rw (← e₀) (sym (got-place (s .3)) ∙ w .0, w .1, w .2, refl)
 
 pub if-there-complete : {A : Type 0} (input : List ℕ) (read : ℕ → Read A) (write : A → List ℕ) (ok : A → Bool) → Codec input read write ok
-  → (b : Bool) (at : ℕ) (o : Option A) → passes ok o ≡ true → isSome o ≡ b → Stands input at (writing.if-there write o)
-  → if-there b read at ≡ got o (at + length (writing.if-there write o))
+    → (b : Bool) (at : ℕ) (o : Option A) → passes ok o ≡ true → isSome o ≡ b → Stands input at (writing.if-there write o)
+    → if-there b read at ≡ got o (at + length (writing.if-there write o))
 if-there-complete input read write ok c b at None pass there stands = rw (← there) (ap (got None) (sym (add-zero at)))
 if-there-complete input read write ok c b at (Some a) pass there stands = rw (← there) (rw (c .complete at a pass stands) refl)
 
@@ -90,33 +90,33 @@ if-there-complete input read write ok c b at (Some a) pass there stands = rw (�
 pub byte-codec : (input : List ℕ) → Bytes input → Codec input (byte input) (λ b. b ∷ []) (λ b. ltb b 256)
 byte-codec input bytes = record {
   sound = λ at a q e.
-    let s = long-got (leb (at + 1) (length input)) (length input) (getD input at 0) a (at + 1) q e in
-    rw (← s .1, ← s .2) (refl, stands-byte input at (leb-true (at + 1) (length input) (s .0)), lt-ltb (getD input at 0) 256 (bytes at));
+      let s = long-got (leb (at + 1) (length input)) (length input) (getD input at 0) a (at + 1) q e in
+      rw (← s .1, ← s .2) (refl, stands-byte input at (leb-true (at + 1) (length input) (s .0)), lt-ltb (getD input at 0) 256 (bytes at));
   complete = λ at a ok stands.
-    let within = stands-within input at a [] stands in
-    let is : getD input (at + 0) 0 ≡ a = stands-at input at (a ∷ []) 0 stands (omega arith) in
-    let is′ : getD input at 0 ≡ a = rw add-zero at is in
-    rw (le-leb (at + 1) (length input) within, is′) refl;
+      let within = stands-within input at a [] stands in
+      let is : getD input (at + 0) 0 ≡ a = stands-at input at (a ∷ []) 0 stands (omega arith) in
+      let is′ : getD input at 0 ≡ a = rw add-zero at is in
+      rw (le-leb (at + 1) (length input) within, is′) refl;
 }
 
 -- a number of two bytes
 pub two-codec : (input : List ℕ) → Bytes input → Codec input (two input) writing.two-bytes (λ n. ltb n 65536)
 two-codec input bytes = record {
   sound = λ at a q e.
-    let low = getD input at 0 in
-    let high = getD input (at + 1) 0 in
-    let s = long-got (leb (at + 2) (length input)) (length input) (low + 256 * high) a (at + 2) q e in
-    let less = bytes at in
-    let less′ = bytes (at + 1) in
-    let first : (low + 256 * high) % 256 ≡ low = omega arith in
-    let second : (low + 256 * high) / 256 ≡ high = omega arith in
-    rw (← s .1, ← s .2, first, second)
-    (refl, stands-two input at (leb-true (at + 2) (length input) (s .0)), lt-ltb (low + 256 * high) 65536 (omega arith));
+      let low = getD input at 0 in
+      let high = getD input (at + 1) 0 in
+      let s = long-got (leb (at + 2) (length input)) (length input) (low + 256 * high) a (at + 2) q e in
+      let less = bytes at in
+      let less′ = bytes (at + 1) in
+      let first : (low + 256 * high) % 256 ≡ low = omega arith in
+      let second : (low + 256 * high) / 256 ≡ high = omega arith in
+      rw (← s .1, ← s .2, first, second)
+      (refl, stands-two input at (leb-true (at + 2) (length input) (s .0)), lt-ltb (low + 256 * high) 65536 (omega arith));
   complete = λ at a ok stands.
-    let within = stands-within input at (a % 256) (a / 256 ∷ []) stands in
-    let first : getD input (at + 0) 0 ≡ a % 256 = stands-at input at (writing.two-bytes a) 0 stands (omega arith) in
-    let second : getD input (at + 1) 0 ≡ a / 256 = stands-at input at (writing.two-bytes a) 1 stands (omega arith) in
-    let first′ : getD input at 0 ≡ a % 256 = rw add-zero at first in
-    let back : a % 256 + 256 * (a / 256) ≡ a = omega arith in
-    rw (le-leb (at + 2) (length input) within, first′, second, back) refl;
+      let within = stands-within input at (a % 256) (a / 256 ∷ []) stands in
+      let first : getD input (at + 0) 0 ≡ a % 256 = stands-at input at (writing.two-bytes a) 0 stands (omega arith) in
+      let second : getD input (at + 1) 0 ≡ a / 256 = stands-at input at (writing.two-bytes a) 1 stands (omega arith) in
+      let first′ : getD input at 0 ≡ a % 256 = rw add-zero at first in
+      let back : a % 256 + 256 * (a / 256) ≡ a = omega arith in
+      rw (le-leb (at + 2) (length input) within, first′, second, back) refl;
 }

@@ -3,7 +3,6 @@ use Prim.Native.Nat.{ℕ, zero, suc, _+_, _<_, _≤_}
 use mathlib.Core.Bool.{Bool, true, false, cond, _&&_}
 use mathlib.Core.List.{List, [], _∷_, _++_}
 use mathlib.Core.Path.{_≡_, refl, sym, ap, _∙_}
-
 use native.Mathlib.Omega.{arith}
 use lib.Dec.{leb, ltb, eqb}
 use lib.ListN.{length, getD, take, drop, length-take, length-drop}
@@ -29,12 +28,12 @@ module _ (input : List ℕ) (bytes : Bytes input) where
   -- a part of the input consists of bytes
   pub part-bytes : (at size : ℕ) → all-bytes (take size (drop at input)) ≡ true
   part-bytes at size = all-bytes-from (take size (drop at input)) (λ k less.
-    let less′ : k < size = omega (arith, length-take size (drop at input)) in
-    rw (getD-take size (drop at input) k 0 less′, getD-drop at input k 0) (bytes (at + k)))
+      let less′ : k < size = omega (arith, length-take size (drop at input)) in
+      rw (getD-take size (drop at input) k 0 less′, getD-drop at input k 0) (bytes (at + k)))
 
   -- so many bytes
   pub part-sound : (size at : ℕ) (xs : List ℕ) (q : ℕ) → part size input at ≡ got xs q
-    → (q ≡ at + length xs) × Stands input at xs × (length xs ≡ size) × (all-bytes xs ≡ true)
+      → (q ≡ at + length xs) × Stands input at xs × (length xs ≡ size) × (all-bytes xs ≡ true)
   part-sound size at xs q e =
       let s = long-got (leb (at + size) (length input)) (length input) (take size (drop at input)) xs (at + size) q e in
       let within = leb-true (at + size) (length input) (s .0) in
@@ -44,14 +43,14 @@ module _ (input : List ℕ) (bytes : Bytes input) where
   pub eight-codec : Codec input (part 8 input) (λ b. b) eight
   eight-codec = record {
     sound = λ at xs q e.
-      let s = part-sound 8 at xs q e in
-      (s .0, s .1, and-from (eqb (length xs) 8) (all-bytes xs) (eq-eqb (length xs) 8 (s .2)) (s .3));
+        let s = part-sound 8 at xs q e in
+        (s .0, s .1, and-from (eqb (length xs) 8) (all-bytes xs) (eq-eqb (length xs) 8 (s .2)) (s .3));
     complete = λ at xs ok stands.
-      let long = eqb-true (length xs) 8 (and-parts (eqb (length xs) 8) (all-bytes xs) ok .0) in
-      let within : at + 8 ≤ length input =
+        let long = eqb-true (length xs) 8 (and-parts (eqb (length xs) 8) (all-bytes xs) ok .0) in
+        let within : at + 8 ≤ length input =
         omega (arith, length-take (length xs) (drop at input), length-drop at input, ap length stands) in
-      let all : take 8 (drop at input) ≡ xs = rw long at stands in
-      rw (le-leb (at + 8) (length input) within, all, long) refl;
+        let all : take 8 (drop at input) ≡ xs = rw long at stands in
+        rw (le-leb (at + 8) (length input) within, all, long) refl;
   }
 
   module _ (l : Limits) where
@@ -69,7 +68,7 @@ module _ (input : List ℕ) (bytes : Bytes input) where
     source-codec true d = and-checked input (operand l input) two-bytes (short (in-use l)) (same-class l d) 8 operand-codec
     source-codec false d = record {
       sound = λ at a q e.
-        let s = operand-codec .sound at a q e in
-        (s .0, s .1, and-from (short (in-use l) a) true (s .2) refl);
+          let s = operand-codec .sound at a q e in
+          (s .0, s .1, and-from (short (in-use l) a) true (s .2) refl);
       complete = λ at a ok stands. operand-codec .complete at a (and-parts (short (in-use l) a) true ok .0) stands;
     }

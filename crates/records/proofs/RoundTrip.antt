@@ -38,7 +38,7 @@ bit-is bit None = omega arith
 bit-is bit (Some a) = omega arith
 
 map-is : (f : Fields) → map-byte f
-  ≡ sum-of (isSome (f .destination)) (isSome (f .first)) (isSome (f .second)) (isSome (f .target)) (isSome (f .constant)) (isSome (f .slot))
+    ≡ sum-of (isSome (f .destination)) (isSome (f .first)) (isSome (f .second)) (isSome (f .target)) (isSome (f .constant)) (isSome (f .slot))
 map-is f =
     rw (bit-is 0x01 (f .destination), bit-is 0x02 (f .first), bit-is 0x04 (f .second), bit-is 0x08 (f .target), bit-is 0x10 (f .constant), bit-is 0x40 (f .slot)) refl
 
@@ -66,18 +66,18 @@ listed-summed : (es : List Entry) (k m : ℕ) → All-summed es → listed es k 
 listed-summed [] k m all e = absurd (false≢true e)
 listed-summed (x ∷ es) k m all e =
     elim (or-cases (eqb k (x .kind) && eqb m (x .map)) (listed es k m) e) [
-      inl h ↦ summed-at m (x .map) (and-parts (eqb k (x .kind)) (eqb m (x .map)) h .1) (all .0)
-    | inr h ↦ listed-summed es k m (all .1) h
+      | inl h ↦ summed-at m (x .map) (and-parts (eqb k (x .kind)) (eqb m (x .map)) h .1) (all .0)
+      | inr h ↦ listed-summed es k m (all .1) h
     ]
 
 -- every map of a kind's own is one
 own-summed : (s : Bool) (k m : ℕ) → own s k m ≡ true → Summed m
 own-summed s k m e =
     elim (or-cases (leb 16 k && among operator-maps m) (listed formula-kinds k m || (s && listed slot-kinds k m)) e) [
-      inl h ↦ among-summed operator-maps m (refl, (refl, (refl, (refl, tt)))) (and-parts (leb 16 k) (among operator-maps m) h .1)
-    | inr h ↦ elim (or-cases (listed formula-kinds k m) (s && listed slot-kinds k m) h) [
-        inl h ↦ listed-summed formula-kinds k m (refl, (refl, (refl, (refl, (refl, (refl, tt)))))) h
-      | inr h ↦ listed-summed slot-kinds k m (refl, (refl, tt)) (and-parts s (listed slot-kinds k m) h .1)
+      | inl h ↦ among-summed operator-maps m (refl, (refl, (refl, (refl, tt)))) (and-parts (leb 16 k) (among operator-maps m) h .1)
+      | inr h ↦ elim (or-cases (listed formula-kinds k m) (s && listed slot-kinds k m) h) [
+        | inl h ↦ listed-summed formula-kinds k m (refl, (refl, (refl, (refl, (refl, (refl, tt)))))) h
+        | inr h ↦ listed-summed slot-kinds k m (refl, (refl, tt)) (and-parts s (listed slot-kinds k m) h .1)
       ]
     ]
 
@@ -88,8 +88,15 @@ one-small false = omega arith
 -- a map is a byte
 pub map-small : (f : Fields) → map-byte f < 256
 map-small f =
-    rw (map-is f) (omega (arith, one-small (isSome (f .destination)), one-small (isSome (f .first)), one-small (isSome (f .second)),
-    one-small (isSome (f .target)), one-small (isSome (f .constant)), one-small (isSome (f .slot))))
+    rw (map-is f) (omega (
+      arith,
+      one-small (isSome (f .destination)),
+      one-small (isSome (f .first)),
+      one-small (isSome (f .second)),
+      one-small (isSome (f .target)),
+      one-small (isSome (f .constant)),
+      one-small (isSome (f .slot)),
+    ))
 
 -- a bit of the sum is the field's own
 bit-back : (b : Bool) (n : ℕ) → n ≡ one-if b → b ≡ eqb n 1
@@ -98,17 +105,22 @@ bit-back false n e = rw e refl
 
 -- the six fields of a map, back from their sum
 sum-has : (b₁ b₂ b₃ b₄ b₅ b₆ : Bool) (m : ℕ) → m ≡ sum-of b₁ b₂ b₃ b₄ b₅ b₆
-  → (b₁ ≡ has-field 0x01 m) × (b₂ ≡ has-field 0x02 m) × (b₃ ≡ has-field 0x04 m)
-  × (b₄ ≡ has-field 0x08 m) × (b₅ ≡ has-field 0x10 m) × (b₆ ≡ has-field 0x40 m)
+    → (b₁ ≡ has-field 0x01 m) × (b₂ ≡ has-field 0x02 m) × (b₃ ≡ has-field 0x04 m)
+    × (b₄ ≡ has-field 0x08 m) × (b₅ ≡ has-field 0x10 m) × (b₆ ≡ has-field 0x40 m)
 sum-has b₁ b₂ b₃ b₄ b₅ b₆ m e =
     let s₁ = one-small b₁ in
     let s₂ = one-small b₂ in
     let s₃ = one-small b₃ in
     let s₄ = one-small b₄ in
     let s₅ = one-small b₅ in
-    let s₆ = one-small b₆ in
-    (bit-back b₁ (m / 1 % 2) (omega arith), bit-back b₂ (m / 2 % 2) (omega arith), bit-back b₃ (m / 4 % 2) (omega arith),
-     bit-back b₄ (m / 8 % 2) (omega arith), bit-back b₅ (m / 16 % 2) (omega arith), bit-back b₆ (m / 64 % 2) (omega arith))
+    let s₆ = one-small b₆ in (
+      bit-back b₁ (m / 1 % 2) (omega arith),
+      bit-back b₂ (m / 2 % 2) (omega arith),
+      bit-back b₃ (m / 4 % 2) (omega arith),
+      bit-back b₄ (m / 8 % 2) (omega arith),
+      bit-back b₅ (m / 16 % 2) (omega arith),
+      bit-back b₆ (m / 64 % 2) (omega arith),
+    )
 
 -- two tests in one
 passes-both : {A : Type 0} (t u : A → Bool) (o : Option A) → passes (λ a. t a && u a) o ≡ true → (passes t o ≡ true) × (passes u o ≡ true)
@@ -134,7 +146,7 @@ own-elim false x f at q e use-it = absurd (never e)
 
 module _ (input : List ℕ) (bytes : Bytes input) (l : Limits) (at : ℕ) (f : Fields) where
   pub record-sound : (q : ℕ) → record-at l input at ≡ got f q
-    → (q ≡ at + length (row-bytes f)) × Stands input at (row-bytes f) × Keeps l f
+      → (q ≡ at + length (row-bytes f)) × Stands input at (row-bytes f) × Keeps l f
   unfolding record-at
   record-sound q e =
       then-elim (byte input at) _ f q e (λ m p₁ r₁ e₁.
@@ -145,18 +157,23 @@ module _ (input : List ℕ) (bytes : Bytes input) (l : Limits) (at : ℕ) (f : F
       let w₃ = body-sound input bytes l (eqb k 3) k m p₂ f q e₃ in
       let b = w₃ .2 in
       let map : map-byte f ≡ m =
-        map-is f ∙ (rw (b .has-destination, b .has-first, b .has-second, b .has-target, b .has-constant, b .has-slot) (own-summed (isSome (l .slots)) k m owned)) in
-      let first = passes-both (short (in-use l)) (λ v. cond (eqb k 3) (same-class l (f .destination) v) true) (f .first) (b .first) in
-      (rw (w₃ .0, w₂ .0, w₁ .0) (omega arith),
-       rw (map, b .kind) (stands-next input at p₁ (m ∷ []) (k ∷ body-bytes f) (w₁ .0) (w₁ .1)
-         (stands-next input p₁ p₂ (k ∷ []) (body-bytes f) (w₂ .0) (w₂ .1) (w₃ .1))),
-       record {
-         kind = rw (b .kind) (ltb-true k 256 (w₂ .2));
-         fields = rw (map, b .kind) owned;
-         destination = b .destination; first = first .0; second = b .second;
-         classes = λ is. let three : eqb k 3 ≡ true = eq-eqb k 3 (sym (b .kind) ∙ is) in rw three at (first .1);
-         target = b .target; slot = b .slot; constant = b .constant;
-       }))))
+      map-is f ∙ (rw (b .has-destination, b .has-first, b .has-second, b .has-target, b .has-constant, b .has-slot) (own-summed (isSome (l .slots)) k m owned)) in
+      let first = passes-both (short (in-use l)) (λ v. cond (eqb k 3) (same-class l (f .destination) v) true) (f .first) (b .first) in (
+        rw (w₃ .0, w₂ .0, w₁ .0) (omega arith),
+        rw (map, b .kind) (stands-next input at p₁ (m ∷ []) (k ∷ body-bytes f) (w₁ .0) (w₁ .1)
+            (stands-next input p₁ p₂ (k ∷ []) (body-bytes f) (w₂ .0) (w₂ .1) (w₃ .1))),
+        record {
+          kind = rw (b .kind) (ltb-true k 256 (w₂ .2));
+          fields = rw (map, b .kind) owned;
+          destination = b .destination;
+          first = first .0;
+          second = b .second;
+          classes = λ is. let three : eqb k 3 ≡ true = eq-eqb k 3 (sym (b .kind) ∙ is) in rw three at (first .1);
+          target = b .target;
+          slot = b .slot;
+          constant = b .constant;
+        },
+      ))))
 
   pub record-complete : Keeps l f → Stands input at (row-bytes f) → record-at l input at ≡ got f (at + length (row-bytes f))
   unfolding record-at
@@ -168,10 +185,21 @@ module _ (input : List ℕ) (bytes : Bytes input) (l : Limits) (at : ℕ) (f : F
       let e₁ = byte-codec input bytes .complete at m (lt-ltb m 256 (map-small f)) (stands-front input at (m ∷ []) (f .kind ∷ body-bytes f) stands) in
       let e₂ = byte-codec input bytes .complete (at + 1) (f .kind) (lt-ltb (f .kind) 256 (k .kind)) (stands-front input (at + 1) (f .kind ∷ []) (body-bytes f) s₁) in
       let first = passes-two (short (in-use l)) (λ v. cond (eqb (f .kind) 3) (same-class l (f .destination) v) true) (f .first) (k .first)
-        (when-move (eqb (f .kind) 3) (same-class l (f .destination)) (f .first) (λ three. k .classes (eqb-true (f .kind) 3 three))) in
+      (when-move (eqb (f .kind) 3) (same-class l (f .destination)) (f .first) (λ three. k .classes (eqb-true (f .kind) 3 three))) in
       let b : Body l (eqb (f .kind) 3) (f .kind) m f = record {
-        kind = refl; destination = k .destination; first = first; second = k .second; target = k .target; constant = k .constant; slot = k .slot;
-        has-destination = has .0; has-first = has .1; has-second = has .2; has-target = has .3; has-constant = has .4; has-slot = has .5;
+        kind = refl;
+        destination = k .destination;
+        first = first;
+        second = k .second;
+        target = k .target;
+        constant = k .constant;
+        slot = k .slot;
+        has-destination = has .0;
+        has-first = has .1;
+        has-second = has .2;
+        has-target = has .3;
+        has-constant = has .4;
+        has-slot = has .5;
       } in
       let e₃ = body-complete input bytes l (eqb (f .kind) 3) (f .kind) m ((at + 1) + 1) f b s₂ in
       let place : ((at + 1) + 1) + length (body-bytes f) ≡ at + length (row-bytes f) = omega arith in

@@ -56,20 +56,32 @@ module _ (input : List ℕ) (bytes : Bytes input) (l : Limits) (moves : Bool) (k
       let w₄ = if-there-sound input _ two-bytes _ (target-codec input bytes l) (has-field 0x08 m) p₃ to p₄ r₄ in
       let w₅ = if-there-sound input _ (λ b. b) eight (eight-codec input bytes) (has-field 0x10 m) p₄ c p₅ r₅ in
       let w₆ = if-there-sound input _ two-bytes _ (slot-codec input bytes l) (has-field 0x40 m) p₅ sl p₆ r₆ in
-      rw (← got-value e₆, ← got-place e₆)
-      (simp length-append (omega (arith, w₁ .0, w₂ .0, w₃ .0, w₄ .0, w₅ .0, w₆ .0)),
-       stands-next input place p₁ _ _ (w₁ .0) (w₁ .1)
-       (stands-next input p₁ p₂ _ _ (w₂ .0) (w₂ .1)
-       (stands-next input p₂ p₃ _ _ (w₃ .0) (w₃ .1)
-       (stands-next input p₃ p₄ _ _ (w₄ .0) (w₄ .1)
-       (stands-next input p₄ p₅ _ _ (w₅ .0) (w₅ .1) (w₆ .1))))),
-       record {
-         kind = refl; destination = w₁ .2; first = w₂ .2; second = w₃ .2; target = w₄ .2; constant = w₅ .2; slot = w₆ .2;
-         has-destination = w₁ .3; has-first = w₂ .3; has-second = w₃ .3; has-target = w₄ .3; has-constant = w₅ .3; has-slot = w₆ .3;
-       })))))))
+      rw (← got-value e₆, ← got-place e₆) (
+        simp length-append (omega (arith, w₁ .0, w₂ .0, w₃ .0, w₄ .0, w₅ .0, w₆ .0)),
+        stands-next input place p₁ _ _ (w₁ .0) (w₁ .1)
+            (stands-next input p₁ p₂ _ _ (w₂ .0) (w₂ .1)
+            (stands-next input p₂ p₃ _ _ (w₃ .0) (w₃ .1)
+            (stands-next input p₃ p₄ _ _ (w₄ .0) (w₄ .1)
+            (stands-next input p₄ p₅ _ _ (w₅ .0) (w₅ .1) (w₆ .1))))),
+        record {
+          kind = refl;
+          destination = w₁ .2;
+          first = w₂ .2;
+          second = w₃ .2;
+          target = w₄ .2;
+          constant = w₅ .2;
+          slot = w₆ .2;
+          has-destination = w₁ .3;
+          has-first = w₂ .3;
+          has-second = w₃ .3;
+          has-target = w₄ .3;
+          has-constant = w₅ .3;
+          has-slot = w₆ .3;
+        },
+      )))))))
 
   pub body-complete : (place : ℕ) (f : Fields) → Body l moves k m f → Stands input place (body-bytes f)
-    → fields-at l input moves k m place ≡ got f (place + length (body-bytes f))
+      → fields-at l input moves k m place ≡ got f (place + length (body-bytes f))
   body-complete place f b stands =
       let u₁ = writing.if-there two-bytes (f .destination) in
       let u₂ = writing.if-there two-bytes (f .first) in
@@ -88,15 +100,15 @@ module _ (input : List ℕ) (bytes : Bytes input) (l : Limits) (moves : Bool) (k
       let s₄ = stands-back input p₃ u₄ (u₅ ++ u₆) s₃ in
       let s₅ = stands-back input p₄ u₅ u₆ s₄ in
       let e₁ = if-there-complete input _ two-bytes _ (operand-codec input bytes l) _ place (f .destination) (b .destination) (b .has-destination)
-        (stands-front input place u₁ (u₂ ++ (u₃ ++ (u₄ ++ (u₅ ++ u₆)))) stands) in
+      (stands-front input place u₁ (u₂ ++ (u₃ ++ (u₄ ++ (u₅ ++ u₆)))) stands) in
       let e₂ = if-there-complete input _ two-bytes _ (source-codec input bytes l moves (f .destination)) _ p₁ (f .first) (b .first) (b .has-first)
-        (stands-front input p₁ u₂ (u₃ ++ (u₄ ++ (u₅ ++ u₆))) s₁) in
+      (stands-front input p₁ u₂ (u₃ ++ (u₄ ++ (u₅ ++ u₆))) s₁) in
       let e₃ = if-there-complete input _ two-bytes _ (operand-codec input bytes l) _ p₂ (f .second) (b .second) (b .has-second)
-        (stands-front input p₂ u₃ (u₄ ++ (u₅ ++ u₆)) s₂) in
+      (stands-front input p₂ u₃ (u₄ ++ (u₅ ++ u₆)) s₂) in
       let e₄ = if-there-complete input _ two-bytes _ (target-codec input bytes l) _ p₃ (f .target) (b .target) (b .has-target)
-        (stands-front input p₃ u₄ (u₅ ++ u₆) s₃) in
+      (stands-front input p₃ u₄ (u₅ ++ u₆) s₃) in
       let e₅ = if-there-complete input _ (λ xs. xs) eight (eight-codec input bytes) _ p₄ (f .constant) (b .constant) (b .has-constant)
-        (stands-front input p₄ u₅ u₆ s₄) in
+      (stands-front input p₄ u₅ u₆ s₄) in
       let e₆ = if-there-complete input _ two-bytes _ (slot-codec input bytes l) _ p₅ (f .slot) (b .slot) (b .has-slot) s₅ in
       let all : p₅ + length u₆ ≡ place + length (u₁ ++ (u₂ ++ (u₃ ++ (u₄ ++ (u₅ ++ u₆))))) = simp length-append (omega arith) in
       rw (e₁, e₂, e₃, e₄, e₅, e₆, ← b .kind, all) refl

@@ -13,5 +13,5 @@ use Rattle.records.specs.declared.limits.Limits.{Limits}
 -- a record is read at a place, to the end of its writing, exactly when its writing stands there and it keeps the rules
 abbrev pub Reads-writings : Limits → List ℕ → ℕ → Type 0
 Reads-writings l input at = Bytes input → (f : Fields)
-  → ((q : ℕ) → record-at l input at ≡ got f q → (q ≡ at + length (row-bytes f)) × Stands input at (row-bytes f) × Keeps l f)
-  × (Keeps l f → Stands input at (row-bytes f) → record-at l input at ≡ got f (at + length (row-bytes f)))
+    → ((q : ℕ) → record-at l input at ≡ got f q → (q ≡ at + length (row-bytes f)) × Stands input at (row-bytes f) × Keeps l f)
+    × (Keeps l f → Stands input at (row-bytes f) → record-at l input at ≡ got f (at + length (row-bytes f)))

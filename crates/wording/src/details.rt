@@ -24,42 +24,80 @@ pub fn detail(heap: Global, bytes: &[u8], fault: FormulaFault) -> Result<String,
 }
 
 fn header_ends(heap: Global, len: usize) -> Result<String, AllocError> {
-    format!(heap, "its {len} bytes do not hold the header, six bytes and one bit for each value")
+    format!(
+        heap,
+        "its {len} bytes do not hold the header, six bytes and one bit for each value"
+    )
 }
 
 fn out_of_range(heap: Global, bytes: &[u8], at: usize) -> Result<String, AllocError> {
     match at {
-        0 => out_of(heap, "registers of class 0", byte(bytes, 0) as u16, "1 to 16", at),
-        1 => out_of(heap, "registers of class 1", byte(bytes, 1) as u16, "1 to 16", at),
+        0 => out_of(
+            heap,
+            "registers of class 0",
+            byte(bytes, 0) as u16,
+            "1 to 16",
+            at,
+        ),
+        1 => out_of(
+            heap,
+            "registers of class 1",
+            byte(bytes, 1) as u16,
+            "1 to 16",
+            at,
+        ),
         2 => out_of(heap, "values", number(bytes, 2), "0 to 96", at),
         _ => out_of(heap, "records", number(bytes, 4), "1 to 128", at),
     }
 }
 
-fn out_of(heap: Global, field: &str, found: u16, right: &str, at: usize) -> Result<String, AllocError> {
-    format!(heap, "the number of {field}, at byte {at}, is {found} ({found:X}h); right is {right}")
+fn out_of(
+    heap: Global,
+    field: &str,
+    found: u16,
+    right: &str,
+    at: usize,
+) -> Result<String, AllocError> {
+    format!(
+        heap,
+        "the number of {field}, at byte {at}, is {found} ({found:X}h); right is {right}"
+    )
 }
 
 fn padding_set(heap: Global, bytes: &[u8], at: usize) -> Result<String, AllocError> {
     let found = byte(bytes, at);
     let values = number(bytes, 2);
-    format!(heap, "byte {at}, {found:02X}h, is the last of the class bits; the bits above those of the {values} values must be 0")
+    format!(
+        heap,
+        "byte {at}, {found:02X}h, is the last of the class bits; the bits above those of the {values} values must be 0"
+    )
 }
 
 fn bytes_remain(heap: Global, bytes: &[u8], at: usize) -> Result<String, AllocError> {
     let found = byte(bytes, at);
     let more = bytes.len().saturating_sub(at);
     let records = number(bytes, 4);
-    format!(heap, "the {records} records end before byte {at}, {found:02X}h, and {more} bytes follow; the input must end there")
+    format!(
+        heap,
+        "the {records} records end before byte {at}, {found:02X}h, and {more} bytes follow; the input must end there"
+    )
 }
 
 fn last_goes_on(heap: Global, bytes: &[u8], at: usize) -> Result<String, AllocError> {
     let kind = byte(bytes, at.saturating_add(1));
     let last = number(bytes, 4).saturating_sub(1);
-    format!(heap, "record {last}, at byte {at}, has kind {kind:02X}h; the last record must be a jump (04h) or an end (07h)")
+    format!(
+        heap,
+        "record {last}, at byte {at}, has kind {kind:02X}h; the last record must be a jump (04h) or an end (07h)"
+    )
 }
 
-fn in_record(heap: Global, bytes: &[u8], header: &Header, fault: RecordFault) -> Result<String, AllocError> {
+fn in_record(
+    heap: Global,
+    bytes: &[u8],
+    header: &Header,
+    fault: RecordFault,
+) -> Result<String, AllocError> {
     let spot = first_refused(bytes, header);
     match fault {
         RecordFault::EndsEarly { at } => record_ends(heap, spot, at),
@@ -73,7 +111,10 @@ fn in_record(heap: Global, bytes: &[u8], header: &Header, fault: RecordFault) ->
 
 fn record_ends(heap: Global, spot: Spot, len: usize) -> Result<String, AllocError> {
     let Spot { number, start } = spot;
-    format!(heap, "record {number}, which begins at byte {start}, is not complete at byte {len}, where the input ends")
+    format!(
+        heap,
+        "record {number}, which begins at byte {start}, is not complete at byte {len}, where the input ends"
+    )
 }
 
 // The maps that a record of this kind may have.
@@ -97,7 +138,10 @@ fn unknown_kind(heap: Global, bytes: &[u8], spot: Spot) -> Result<String, AllocE
     let map = byte(bytes, start);
     let kind = byte(bytes, start.saturating_add(1));
     let right = own_maps(kind);
-    format!(heap, "record {number}, at byte {start}, has map {map:02X}h and kind {kind:02X}h; {right}")
+    format!(
+        heap,
+        "record {number}, at byte {start}, has map {map:02X}h and kind {kind:02X}h; {right}"
+    )
 }
 
 // The name of an operand field by its place in a record with this map.
@@ -110,34 +154,73 @@ fn operand_name(map: u8, offset: usize) -> &'static str {
     }
 }
 
-fn not_in_use(heap: Global, bytes: &[u8], header: &Header, spot: Spot, at: usize) -> Result<String, AllocError> {
-    let Spot { number: record, start } = spot;
+fn not_in_use(
+    heap: Global,
+    bytes: &[u8],
+    header: &Header,
+    spot: Spot,
+    at: usize,
+) -> Result<String, AllocError> {
+    let Spot {
+        number: record,
+        start,
+    } = spot;
     let found = number(bytes, at);
     let field = operand_name(byte(bytes, start), at.saturating_sub(start));
     let k0 = header.k0();
     let k1 = header.k1();
     let values = header.values();
-    format!(heap, "record {record}, at byte {start}, names {found} ({found:04X}h) as its {field}, at byte {at}; in use are {k0} registers from 0, {k1} from 16 and {values} values from 32")
+    format!(
+        heap,
+        "record {record}, at byte {start}, names {found} ({found:04X}h) as its {field}, at byte {at}; in use are {k0} registers from 0, {k1} from 16 and {values} values from 32"
+    )
 }
 
-fn between_classes(heap: Global, bytes: &[u8], header: &Header, spot: Spot, at: usize) -> Result<String, AllocError> {
-    let Spot { number: record, start } = spot;
+fn between_classes(
+    heap: Global,
+    bytes: &[u8],
+    header: &Header,
+    spot: Spot,
+    at: usize,
+) -> Result<String, AllocError> {
+    let Spot {
+        number: record,
+        start,
+    } = spot;
     let limits = header.limits();
     let to = number(bytes, start.saturating_add(2));
     let from = number(bytes, at);
     let to_class = limits.class_of(to);
     let from_class = limits.class_of(from);
-    format!(heap, "record {record}, at byte {start}, moves {from} ({from:04X}h, at byte {at}) of class {from_class} to {to} of class {to_class}; a move stays within a class")
+    format!(
+        heap,
+        "record {record}, at byte {start}, moves {from} ({from:04X}h, at byte {at}) of class {from_class} to {to} of class {to_class}; a move stays within a class"
+    )
 }
 
-fn target_too_far(heap: Global, bytes: &[u8], header: &Header, spot: Spot, at: usize) -> Result<String, AllocError> {
-    let Spot { number: record, start } = spot;
+fn target_too_far(
+    heap: Global,
+    bytes: &[u8],
+    header: &Header,
+    spot: Spot,
+    at: usize,
+) -> Result<String, AllocError> {
+    let Spot {
+        number: record,
+        start,
+    } = spot;
     let found = number(bytes, at);
     let records = header.records();
-    format!(heap, "record {record}, at byte {start}, goes to record {found} ({found:04X}h, at byte {at}); targets are below {records}, the number of records")
+    format!(
+        heap,
+        "record {record}, at byte {start}, goes to record {found} ({found:04X}h, at byte {at}); targets are below {records}, the number of records"
+    )
 }
 
 fn slot_too_far(heap: Global, spot: Spot, at: usize) -> Result<String, AllocError> {
     let Spot { number, start } = spot;
-    format!(heap, "record {number}, at byte {start}, names a slot, at byte {at}, that is not below the number of slots")
+    format!(
+        heap,
+        "record {number}, at byte {start}, names a slot, at byte {at}, that is not below the number of slots"
+    )
 }

@@ -15,10 +15,16 @@ pub fn first_refused(bytes: &[u8], header: &Header) -> Spot {
     for number in 0..header.records() {
         let start = reader.place();
         if reader.record(&limits).is_err() {
-            return Spot { number: number as usize, start };
+            return Spot {
+                number: number as usize,
+                start,
+            };
         }
     }
-    Spot { number: header.records() as usize, start: reader.place() }
+    Spot {
+        number: header.records() as usize,
+        start: reader.place(),
+    }
 }
 
 // The byte at a place, 0 behind the end.

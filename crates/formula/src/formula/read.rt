@@ -37,5 +37,9 @@ pub fn read_formula(bytes: &[u8]) -> Result<Formula, FormulaFault>
         return Err(FormulaFault::LastGoesOn { at: body.last });
     }
     let starts = body.starts;
-    Ok(Formula { header, code: body.code, starts })
+    Ok(Formula {
+        header,
+        code: body.code,
+        starts,
+    })
 }

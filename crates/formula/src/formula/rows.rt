@@ -23,7 +23,12 @@ pub struct Body {
 }
 
 // Reads as many records as the code has room for.
-pub fn read_rows(limits: &Limits, bytes: &[u8], at: usize, mut code: Code) -> Result<Body, RecordFault>
+pub fn read_rows(
+    limits: &Limits,
+    bytes: &[u8],
+    at: usize,
+    mut code: Code,
+) -> Result<Body, RecordFault>
     requires empty { ⌜ rows-of code ≡ [] ⌝ }
     requires few { ⌜ code .reach ≤ 128 ⌝ }
     requires targets { ⌜ code .reach ≡ now limits .targets ⌝ }
@@ -46,5 +51,11 @@ pub fn read_rows(limits: &Limits, bytes: &[u8], at: usize, mut code: Code) -> Re
         starts[i] = last;
         closed = (row.kind() == 4) | (row.kind() == 7);
     }
-    Ok(Body { code, starts, last, closed, end: reader.place() })
+    Ok(Body {
+        code,
+        starts,
+        last,
+        closed,
+        end: reader.place(),
+    })
 }

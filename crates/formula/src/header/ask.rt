@@ -51,6 +51,13 @@ impl Header {
     pub fn limits(&self) -> Limits
         ensures { λ r. ⌜ r ≡ limits-of (header-fields (now (self .entry))) ⌝ }
     {
-        Limits { k0: self.k0, k1: self.k1, values: self.values, classes: self.classes, targets: self.records, slots: None }
+        Limits {
+            k0: self.k0,
+            k1: self.k1,
+            values: self.values,
+            classes: self.classes,
+            targets: self.records,
+            slots: None,
+        }
     }
 }

@@ -76,5 +76,11 @@ pub fn read_header(bytes: &[u8]) -> Result<Header, FormulaFault>
     let values = count_at(0, 96, bytes, 2)?;
     let records = count_at(1, 128, bytes, 4)?;
     let classes = classes_at(values, bytes, 6)?;
-    Ok(Header { k0, k1, values, records, classes })
+    Ok(Header {
+        k0,
+        k1,
+        values,
+        records,
+        classes,
+    })
 }

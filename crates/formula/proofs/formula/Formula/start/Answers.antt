@@ -20,6 +20,6 @@ returns c =
     let f = c .args .self .now in
     let inside : c .args .number < f .header .records = omega arith in
     let whole : c .args .number < length (take (f .header .records) (f .starts)) =
-      omega (arith, length-take (f .header .records) (f .starts), f .whole, f .header .«few_records») in
+    omega (arith, length-take (f .header .records) (f .starts), f .whole, f .header .«few_records») in
     let found = nth-getD (take (f .header .records) (f .starts)) (c .args .number) 0 whole in
     sym (ap (λ l. Rattle.std.specs.Runs.nth l (c .args .number)) (sym (f .placed)) ∙ (found ∙ ap Some (getD-take (f .header .records) (f .starts) (c .args .number) 0 inside)))

@@ -22,14 +22,14 @@ pub returns-then-body-bytes : need.returns-then-body-bytes
 returns-then-body-bytes c =
     let h = c .in-Continue-header .header in
     let all = assembled (c .args .bytes .now) (header-fields h) _ (c .limits .result) (c .end .result) (c .empty-code .result .reach) _ (c .in-Continue-body .body .end)
-      (c .in-Continue-header .ensures tt) (c .limits .ensures) (c .end .ensures) (c .empty-code .ensures .1) (c .in-Continue-body .ensures tt .value) in
+    (c .in-Continue-header .ensures tt) (c .limits .ensures) (c .end .ensures) (c .empty-code .ensures .1) (c .in-Continue-body .ensures tt .value) in
     record { value = sym (all ∙ rw (lt-ltb _ _ (c .if-body-bytes .taken)) refl); accepts = accepts-writings; distinct = distinct-writings; worked = worked }
 
 pub returns-then-not-body : need.returns-then-not-body
 returns-then-not-body c =
     let h = c .in-Continue-header .header in
     let all = assembled (c .args .bytes .now) (header-fields h) _ (c .limits .result) (c .end .result) (c .empty-code .result .reach) _ (c .in-Continue-body .body .end)
-      (c .in-Continue-header .ensures tt) (c .limits .ensures) (c .end .ensures) (c .empty-code .ensures .1) (c .in-Continue-body .ensures tt .value) in
+    (c .in-Continue-header .ensures tt) (c .limits .ensures) (c .end .ensures) (c .empty-code .ensures .1) (c .in-Continue-body .ensures tt .value) in
     let open-end = sym (c .in-Continue-body .ensures tt .closed) ∙ not-true _ (c .if-not-body .taken) in
     record { value = sym (all ∙ rw (le-ltb _ _ (c .if-body-bytes .left), open-end) refl); accepts = accepts-writings; distinct = distinct-writings; worked = worked }
 
@@ -43,7 +43,7 @@ pub returns : need.returns
 returns c =
     let h = c .in-Continue-header .header in
     let all = assembled (c .args .bytes .now) (header-fields h) _ (c .limits .result) (c .end .result) (c .empty-code .result .reach) _ (c .in-Continue-body .body .end)
-      (c .in-Continue-header .ensures tt) (c .limits .ensures) (c .end .ensures) (c .empty-code .ensures .1) (c .in-Continue-body .ensures tt .value) in
+    (c .in-Continue-header .ensures tt) (c .limits .ensures) (c .end .ensures) (c .empty-code .ensures .1) (c .in-Continue-body .ensures tt .value) in
     let was : c .in-Continue-body .body .closed ≡ true = not-false _ (c .if-not-body .left) in
     let ends = sym (c .in-Continue-body .ensures tt .closed) ∙ was in
     record { value = sym (all ∙ rw (le-ltb _ _ (c .if-body-bytes .left), ends) refl); accepts = accepts-writings; distinct = distinct-writings; worked = worked }

@@ -18,8 +18,8 @@ returns-then-classes-values-ne0 c =
     let whole : at + size ≤ length bytes = grind (arith, tells) in
     let is : c .number-of-classes .result ≡ number (take size (drop at bytes)) = rw all at (c .number-of-classes .ensures) in
     let large : 2 ^ c .args .values ≤ number (take size (drop at bytes)) =
-      elim (cases-lt (number (take size (drop at bytes))) (2 ^ c .args .values)) [
-        inl less ↦ absurd (c .if-classes-values-ne0 .taken (ap (λ n. n / 2 ^ c .args .values) is ∙ div-eq-of-lt less))
+    elim (cases-lt (number (take size (drop at bytes))) (2 ^ c .args .values)) [
+      | inl less ↦ absurd (c .if-classes-values-ne0 .taken (ap (λ n. n / 2 ^ c .args .values) is ∙ div-eq-of-lt less))
       | inr high ↦ high
-      ] in
+    ] in
     record { value = rw (le-leb _ _ whole, le-ltb _ _ large) refl; bound = tt }

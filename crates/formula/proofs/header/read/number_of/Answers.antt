@@ -38,7 +38,8 @@ loop-i-again c =
     let again : at + 1 ≡ c .loop-i .i = omega arith in
     let first = drop-more (c .args .bytes .now) at 0 inside in
     let more : 8 * (length (c .args .bytes .now) - at) ≡ 8 * left + 8 = omega arith in
-    let wider : 2 ^ (8 * left + 8) ≡ 2 ^ (8 * left) * 256 = pow-add 2 (8 * left) 8 in
-    (ap (λ v. v * 256 + getD (c .args .bytes .now) at 0) (c .loop-i .inv .0)
-     ∙ rw (first, again) (omega arith),
-     rw (more, wider) (omega arith))
+    let wider : 2 ^ (8 * left + 8) ≡ 2 ^ (8 * left) * 256 = pow-add 2 (8 * left) 8 in (
+      ap (λ v. v * 256 + getD (c .args .bytes .now) at 0) (c .loop-i .inv .0)
+          ∙ rw (first, again) (omega arith),
+      rw (more, wider) (omega arith),
+    )
