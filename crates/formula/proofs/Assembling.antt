@@ -2,8 +2,8 @@
 use Prim.Native.Nat.{ℕ}
 use mathlib.Core.List.{List}
 use mathlib.Core.Path.{_≡_, refl}
-use Rattle.records.specs.Reading.{got}
-use Rattle.records.specs.declared.limits.Limits.{Limits}
+use Rattle.fields.specs.Reading.{got}
+use Rattle.fields.specs.declared.limits.Limits.{Limits}
 use Rattle.formula.specs.Formulas.{Rows, Formula, rows-at, finished, formula-at}
 use Rattle.formula.specs.Headers as headers
 use Rattle.formula.specs.Headers.{header-at, limits-of}

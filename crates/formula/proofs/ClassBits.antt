@@ -11,7 +11,7 @@ use lib.Pow.{pow-mono}
 use Rattle.std.proofs.shelf.Bits.{pow-add}
 use Rattle.std.proofs.shelf.Tests.{and-parts, ltb-true, lt-ltb, le-leb}
 use Rattle.records.specs.Keeping.{Bytes, Stands, all-bytes}
-use Rattle.records.specs.Reading.{got, part, checked}
+use Rattle.fields.specs.Reading.{got, part, checked}
 use Rattle.records.proofs.Codec.{then-elim, checked-got}
 use Rattle.records.proofs.FieldCodecs.{part-sound}
 use Rattle.formula.specs.Headers.{number, whole-bytes, class-bits}

@@ -13,8 +13,8 @@ use Rattle.std.proofs.shelf.Tests.{ltb-false, le-ltb, lt-ltb, and-from}
 use Rattle.code.specs.Rows.{Fields}
 use Rattle.code.specs.Writing.{two-bytes, row-bytes, rows-bytes}
 use Rattle.records.specs.Keeping.{Bytes, Stands, all-bytes}
-use Rattle.records.specs.Reading.{Read, got, bad}
-use Rattle.records.specs.declared.limits.Limits.{Limits}
+use Rattle.fields.specs.Reading.{Read, got, bad}
+use Rattle.fields.specs.declared.limits.Limits.{Limits}
 use Rattle.std.specs.declared.option.Option.the-variants.{None}
 use Rattle.records.proofs.Codec.{never, then-elim, got-value, got-place}
 use Rattle.records.proofs.Stands.{stands-next, stands-front, stands-back, stands-within}

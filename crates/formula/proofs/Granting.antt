@@ -15,9 +15,9 @@ use Rattle.code.specs.Rows.{Fields, fields}
 use Rattle.code.specs.declared.body.Code.{Code}
 use Rattle.code.specs.declared.row.Row.{Row}
 use Rattle.code.proofs.Asking.{code-length}
-use Rattle.records.specs.InUse.{in-use}
+use Rattle.fields.specs.InUse.{in-use}
 use Rattle.records.specs.Keeping.{Keeps, passes, short}
-use Rattle.records.specs.declared.limits.Limits.{Limits}
+use Rattle.fields.specs.declared.limits.Limits.{Limits}
 
 -- a number in use is below the number of numbers
 used-below : (l : Limits) (v : ℕ) → l .k0 ≤ 16 → l .k1 ≤ 16 → in-use l v ≡ true → v < 32 + l .values

@@ -9,7 +9,7 @@ use lib.ListN.{length, length-append}
 use Rattle.std.proofs.shelf.Tests.{and-parts, and-from, leb-true, le-leb, lt-ltb}
 use Rattle.code.specs.Writing.{two-bytes}
 use Rattle.records.specs.Keeping.{Bytes, Stands}
-use Rattle.records.specs.Reading.{Read, got, byte, two}
+use Rattle.fields.specs.Reading.{Read, got, byte, two}
 use Rattle.records.proofs.Codec.{Codec, and-checked, byte-codec, two-codec, then-elim, got-value, got-place}
 use Rattle.records.proofs.Stands.{stands-next, stands-front, stands-back, stands-within}
 use Rattle.formula.specs.Headers as headers

@@ -11,9 +11,9 @@ use Rattle.code.specs.Rows.{Fields}
 use Rattle.code.specs.Writing.{row-bytes, rows-bytes}
 use Rattle.records.specs.Keeping as records
 use Rattle.records.specs.Keeping.{Bytes, Stands}
-use Rattle.records.specs.Reading.{got}
+use Rattle.fields.specs.Reading.{got}
 use Rattle.records.specs.Records.{record-at}
-use Rattle.records.specs.declared.limits.Limits.{Limits}
+use Rattle.fields.specs.declared.limits.Limits.{Limits}
 use Rattle.records.proofs.Codec.{then-elim, got-value, got-place}
 use Rattle.records.proofs.RoundTrip.{record-sound, record-complete}
 use Rattle.records.proofs.Stands.{stands-next, stands-front, stands-back}

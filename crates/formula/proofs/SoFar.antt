@@ -13,9 +13,9 @@ use Rattle.code.specs.Rows.{Fields}
 use Rattle.code.specs.Writing.{rows-bytes, row-bytes}
 use Rattle.code.specs.declared.body.Code.{Code}
 use Rattle.records.specs.Keeping.{Bytes}
-use Rattle.records.specs.Reading.{got, bad}
+use Rattle.fields.specs.Reading.{got, bad}
 use Rattle.records.specs.Records.{record-at}
-use Rattle.records.specs.declared.limits.Limits.{Limits}
+use Rattle.fields.specs.declared.limits.Limits.{Limits}
 use Rattle.records.proofs.RoundTrip.{record-sound}
 use Rattle.formula.specs.Formulas as formulas
 use Rattle.formula.specs.Starts.{starts-from}

@@ -1,6 +1,6 @@
 -- Every fault of a formula by its number and the place that it names.
 use Prim.Native.Nat.{ℕ}
-use Rattle.records.specs.Faults as records
+use Rattle.fields.specs.Faults as records
 use Rattle.formula.specs.declared.fault.FormulaFault.{FormulaFault}
 use Rattle.formula.specs.declared.fault.FormulaFault.the-variants.{Record, OutOfRange, PaddingSet, BytesRemain, LastGoesOn}
 

@@ -5,9 +5,9 @@ use mathlib.Core.List.{List, [], _∷_, _++_}
 use lib.Dec.{eqb, ltb}
 use lib.ListN.{length}
 use Rattle.code.specs.Rows.{Fields}
-use Rattle.records.specs.Reading.{Read, got, bad, then}
+use Rattle.fields.specs.Reading.{Read, got, bad, then}
 use Rattle.records.specs.Records.{record-at}
-use Rattle.records.specs.declared.limits.Limits.{Limits}
+use Rattle.fields.specs.declared.limits.Limits.{Limits}
 use Rattle.formula.specs.Headers as headers
 use Rattle.formula.specs.Headers.{header-at, limits-of}
 

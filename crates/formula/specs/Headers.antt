@@ -4,8 +4,8 @@ use mathlib.Core.Bool.{Bool, _&&_}
 use mathlib.Core.List.{List, [], _∷_}
 use lib.Dec.{leb, ltb}
 use Rattle.std.specs.declared.option.Option.the-variants.{None}
-use Rattle.records.specs.Reading.{Read, got, bad, then, byte, two, part, checked}
-use Rattle.records.specs.declared.limits.Limits.{Limits}
+use Rattle.fields.specs.Reading.{Read, got, bad, then, byte, two, part, checked}
+use Rattle.fields.specs.declared.limits.Limits.{Limits}
 use Rattle.formula.specs.declared.header.Header.{Header}
 
 -- a header: registers in use of class 0 and of class 1, values, records, and the classes of the values, the first as the lowest bit

@@ -8,7 +8,7 @@ use Rattle.std.specs.declared.option.Option.the-variants.{None}
 use Rattle.code.specs.Rows.{Fields}
 use Rattle.code.specs.Writing.{two-bytes, rows-bytes}
 use Rattle.records.specs.Keeping as records
-use Rattle.records.specs.declared.limits.Limits.{Limits}
+use Rattle.fields.specs.declared.limits.Limits.{Limits}
 use Rattle.formula.specs.Formulas.{Formula, closed}
 use Rattle.formula.specs.Headers.{whole-bytes}
 

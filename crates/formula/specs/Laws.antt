@@ -4,7 +4,7 @@ use mathlib.Core.List.{List}
 use mathlib.Core.Path.{_≡_}
 use lib.ListN.{length}
 use Rattle.records.specs.Keeping.{Bytes}
-use Rattle.records.specs.Reading.{got}
+use Rattle.fields.specs.Reading.{got}
 use Rattle.formula.specs.Formulas.{Formula, formula-at}
 use Rattle.formula.specs.Keeping.{formula-bytes, Keeps}
 

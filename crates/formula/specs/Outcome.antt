@@ -5,9 +5,9 @@ use lib.ListN.{length}
 use Rattle.std.specs.declared.result.Result.{Result}
 use Rattle.std.specs.declared.result.Result.the-variants.{Ok, Err}
 use Rattle.code.specs.Codes.{rows-of}
-use Rattle.records.specs.Faults as records
-use Rattle.records.specs.Reading.{Read, got, bad}
-use Rattle.records.specs.declared.fault.RecordFault.{RecordFault}
+use Rattle.fields.specs.Faults as records
+use Rattle.fields.specs.Reading.{Read, got, bad}
+use Rattle.fields.specs.declared.fault.RecordFault.{RecordFault}
 use Rattle.formula.specs.Faults.{number-of, place-of}
 use Rattle.formula.specs.Formulas as formulas
 use Rattle.formula.specs.Headers as headers

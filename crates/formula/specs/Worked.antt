@@ -6,7 +6,7 @@ use lib.ListN.{length}
 use Rattle.std.specs.declared.option.Option.the-variants.{Some, None}
 use Rattle.code.specs.Codes.{moves-in}
 use Rattle.code.specs.Rows.{Fields}
-use Rattle.records.specs.Reading.{Read, got, bad}
+use Rattle.fields.specs.Reading.{Read, got, bad}
 use Rattle.formula.specs.Formulas.{Formula, formula-at}
 
 -- two registers of class 0, one of class 1, three values; constant 32, move 33 from 32, operator 34 from 33 and 33, give 34, end

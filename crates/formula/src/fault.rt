@@ -1,9 +1,9 @@
 ghost use mathlib.Core.Path.{_≡_};
 ghost use Rattle.formula.specs.Faults.{number-of, place-of};
 ghost use Rattle.formula.specs.declared.fault.FormulaFault.the-variants.{Record};
-use records::RecordFault;
-use records::fault::RecordFaultDebug;
-use records::fault::RecordFaultPartialEq;
+use fields::RecordFault;
+use fields::fault::RecordFaultDebug;
+use fields::fault::RecordFaultPartialEq;
 
 // Why a formula is refused, each with the place that the refusal names.
 #[derive(Clone, Copy, PartialEq, Eq, Debug)]

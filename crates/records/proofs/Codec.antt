@@ -14,7 +14,7 @@ use Rattle.std.specs.declared.option.Option.the-variants.{Some, None}
 use Rattle.std.proofs.shelf.Tests.{leb-true, le-leb, cases-bool, both-ways, and-parts, and-from, lt-ltb, ltb-true, eq-eqb, eqb-true}
 use Rattle.code.specs.Writing as writing
 use Rattle.records.specs.Keeping.{Stands, Bytes, passes, short, all-bytes, eight}
-use Rattle.records.specs.Reading.{Read, got, bad, then, if-long, byte, two, part, checked, if-there}
+use Rattle.fields.specs.Reading.{Read, got, bad, then, if-long, byte, two, part, checked, if-there}
 use Rattle.records.proofs.Stands.{stands-byte, stands-two, stands-part, stands-at, stands-within}
 
 pub never : {A : Type 0} {a : A} {p n q : ℕ} → bad n q ≡ got a p → ⊥

@@ -11,11 +11,11 @@ use Rattle.std.specs.declared.option.Option.the-variants.{Some, None}
 use Rattle.std.proofs.shelf.Lists.{getD-drop, getD-take}
 use Rattle.std.proofs.shelf.Tests.{leb-true, le-leb, and-parts, and-from, lt-ltb, eq-eqb, eqb-true}
 use Rattle.code.specs.Writing.{two-bytes}
-use Rattle.records.specs.InUse.{in-use, below-given}
+use Rattle.fields.specs.InUse.{in-use, below-given}
 use Rattle.records.specs.Keeping.{Stands, Bytes, short, all-bytes, eight}
-use Rattle.records.specs.Reading.{Read, got, bad, part}
-use Rattle.records.specs.Records.{operand, source, target, slot, same-class}
-use Rattle.records.specs.declared.limits.Limits.{Limits}
+use Rattle.fields.specs.Reading.{Read, got, bad, part}
+use Rattle.fields.specs.Operands.{operand, source, target, slot, same-class}
+use Rattle.fields.specs.declared.limits.Limits.{Limits}
 use Rattle.records.proofs.Codec.{Codec, and-checked, two-codec, long-got}
 
 all-bytes-from : (xs : List ℕ) → ((k : ℕ) → k < length xs → getD xs k 0 < 256) → all-bytes xs ≡ true

@@ -15,12 +15,13 @@ use Rattle.std.proofs.shelf.Ways.{tells}
 use Rattle.code.specs.Kinds.{Entry, own, has-field, among, listed, operator-maps, formula-kinds, slot-kinds}
 use Rattle.code.specs.Rows.{Fields}
 use Rattle.code.specs.Writing.{row-bytes, body-bytes, map-byte, bit-of}
-use Rattle.records.specs.InUse.{in-use, below-given}
+use Rattle.fields.specs.InUse.{in-use, below-given}
 use Rattle.records.specs.Keeping.{Stands, Bytes, Keeps, passes, short}
 use Rattle.records.specs.Laws.{Reads-writings}
-use Rattle.records.specs.Reading.{Read, got, bad, then, byte}
-use Rattle.records.specs.Records.{same-class, fields-at, record-at}
-use Rattle.records.specs.declared.limits.Limits.{Limits}
+use Rattle.fields.specs.Reading.{Read, got, bad, then, byte}
+use Rattle.fields.specs.Operands.{same-class}
+use Rattle.records.specs.Records.{fields-at, record-at}
+use Rattle.fields.specs.declared.limits.Limits.{Limits}
 use Rattle.records.proofs.Codec.{Codec, never, then-elim, byte-codec}
 use Rattle.records.proofs.Rows.{Body, body-sound, body-complete}
 use Rattle.records.proofs.Stands.{stands-next, stands-front, stands-back}

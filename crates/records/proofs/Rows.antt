@@ -13,11 +13,12 @@ use Rattle.code.specs.Kinds.{own, has-field}
 use Rattle.code.specs.Rows.{Fields}
 use Rattle.code.specs.Writing as writing
 use Rattle.code.specs.Writing.{two-bytes, body-bytes}
-use Rattle.records.specs.InUse.{in-use, below-given}
+use Rattle.fields.specs.InUse.{in-use, below-given}
 use Rattle.records.specs.Keeping.{Stands, Bytes, passes, short, eight}
-use Rattle.records.specs.Reading.{Read, got, bad, then, part, if-there}
-use Rattle.records.specs.Records.{operand, source, target, slot, same-class, fields-at}
-use Rattle.records.specs.declared.limits.Limits.{Limits}
+use Rattle.fields.specs.Reading.{Read, got, bad, then, part, if-there}
+use Rattle.fields.specs.Operands.{operand, source, target, slot, same-class}
+use Rattle.records.specs.Records.{fields-at}
+use Rattle.fields.specs.declared.limits.Limits.{Limits}
 use Rattle.records.proofs.Codec.{Codec, then-elim, got-value, got-place, if-there-sound, if-there-complete}
 use Rattle.records.proofs.FieldCodecs.{operand-codec, target-codec, slot-codec, source-codec, eight-codec}
 use Rattle.records.proofs.Stands.{stands-next, stands-front, stands-back}

@@ -12,7 +12,7 @@ use Rattle.std.proofs.shelf.Tests.{and-parts, and-from, lt-ltb, ltb-true}
 use Rattle.code.specs.Rows.{Fields}
 use Rattle.code.specs.Writing.{two-bytes, if-there, row-bytes, rows-bytes, map-byte}
 use Rattle.records.specs.Keeping.{Bytes, Keeps, all-bytes, passes, short, eight}
-use Rattle.records.specs.declared.limits.Limits.{Limits}
+use Rattle.fields.specs.declared.limits.Limits.{Limits}
 use Rattle.records.proofs.RoundTrip.{map-small}
 
 pub bytes-from : (xs : List ℕ) → all-bytes xs ≡ true → Bytes xs

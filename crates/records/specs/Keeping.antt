@@ -11,9 +11,9 @@ use Rattle.std.specs.declared.option.Option.the-variants.{Some, None}
 use Rattle.code.specs.Kinds.{own}
 use Rattle.code.specs.Rows.{Fields}
 use Rattle.code.specs.Writing.{map-byte}
-use Rattle.records.specs.InUse.{in-use, below-given}
-use Rattle.records.specs.Records.{same-class}
-use Rattle.records.specs.declared.limits.Limits.{Limits}
+use Rattle.fields.specs.InUse.{in-use, below-given}
+use Rattle.fields.specs.Operands.{same-class}
+use Rattle.fields.specs.declared.limits.Limits.{Limits}
 
 -- a field that is there passes the test
 abbrev pub passes : {A : Type 0} → (A → Bool) → Option A → Bool

@@ -6,9 +6,9 @@ use lib.ListN.{length}
 use Rattle.code.specs.Rows.{Fields}
 use Rattle.code.specs.Writing.{row-bytes}
 use Rattle.records.specs.Keeping.{Bytes, Keeps, Stands}
-use Rattle.records.specs.Reading.{got}
+use Rattle.fields.specs.Reading.{got}
 use Rattle.records.specs.Records.{record-at}
-use Rattle.records.specs.declared.limits.Limits.{Limits}
+use Rattle.fields.specs.declared.limits.Limits.{Limits}
 
 -- a record is read at a place, to the end of its writing, exactly when its writing stands there and it keeps the rules
 abbrev pub Reads-writings : Limits → List ℕ → ℕ → Type 0

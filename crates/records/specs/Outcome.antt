@@ -10,19 +10,11 @@ use Rattle.std.specs.declared.result.Result.the-variants.{Ok, Err}
 use Rattle.code.specs.Rows.{Fields, fields}
 use Rattle.code.specs.declared.row.Row.{Row}
 use Rattle.code.specs.declared.row.Row.the-variants as row
-use Rattle.records.specs.Faults.{number-of, place-of}
-use Rattle.records.specs.Reading.{Read, got, bad}
-use Rattle.records.specs.declared.fault.RecordFault.{RecordFault}
+use Rattle.fields.specs.Faults.{number-of, place-of}
+use Rattle.fields.specs.Reading.{Read, got, bad}
+use Rattle.fields.specs.declared.fault.RecordFault.{RecordFault}
 use Rattle.records.specs.declared.record.Record.{Record}
 use Rattle.records.specs.declared.record.Record.the-variants.{Constant, Move, Jump, Branch, Give, End, Load, Store, Operator}
-
--- a value or a fault, where reading a value ends at this place
-abbrev pub read-as : {A B : Type 0} → (A → B) → Result A RecordFault → ℕ → Read B
-read-as meaning (Ok value) next = got (meaning value) next
-read-as meaning (Err fault) next = bad (number-of fault) (place-of fault)
-
-abbrev pub itself : ℕ → ℕ
-itself n = n
 
 -- a record as a row that keeps its fields by value; a constant is the bytes of the input that the record borrows
 abbrev pub row-of : Record → Row

@@ -3,14 +3,14 @@ ghost use mathlib.Core.Bool.{true, false};
 ghost use mathlib.Core.Path.{_≡_};
 ghost use Rattle.records.specs.Outcome.{record-read};
 ghost use Rattle.records.specs.Records.{fields-at};
-use crate::fault::RecordFault;
-use crate::fields::move_source_at;
-use crate::fields::operand_at;
-use crate::fields::slot_at;
-use crate::fields::target_at;
-use crate::limits::Limits;
-use crate::parts::eight_at;
 use crate::record::Record;
+use fields::fault::RecordFault;
+use fields::limits::Limits;
+use fields::operands::move_source_at;
+use fields::operands::operand_at;
+use fields::operands::slot_at;
+use fields::operands::target_at;
+use fields::parts::eight_at;
 
 // A record with the place behind it.
 pub type Found<'a> = Result<(Record<'a>, usize), RecordFault>;

@@ -5,10 +5,10 @@ ghost use Rattle.code.specs.Kinds.{among, operator-maps};
 ghost use Rattle.records.specs.Outcome.{record-read};
 ghost use Rattle.records.specs.Records.{fields-at};
 use crate::bodies::Found;
-use crate::fields::operand_at;
-use crate::limits::Limits;
-use crate::parts::eight_at;
 use crate::record::Record;
+use fields::limits::Limits;
+use fields::operands::operand_at;
+use fields::parts::eight_at;
 
 fn of_one<'a>(limits: &Limits, bytes: &'a [u8], kind: u8, at: usize) -> Found<'a>
     ensures { λ r. ⌜ record-read r ≡ fields-at (now (limits .entry)) (now (bytes .entry)) false kind 0x03 at ⌝ }

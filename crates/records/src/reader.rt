@@ -6,7 +6,8 @@ ghost use Rattle.std.specs.Options.{isSome};
 ghost use Rattle.std.specs.Results.{isErr};
 ghost use Rattle.code.specs.Kinds.{own};
 ghost use Rattle.records.specs.Laws.{Reads-writings};
-ghost use Rattle.records.specs.Outcome.{record-read, read-as, record-fields};
+ghost use Rattle.fields.specs.Outcome.{read-as};
+ghost use Rattle.records.specs.Outcome.{record-read, record-fields};
 ghost use Rattle.records.specs.Records.{fields-at, record-at};
 use crate::bodies::Found;
 use crate::bodies::branch;
@@ -16,12 +17,12 @@ use crate::bodies::jump;
 use crate::bodies::load;
 use crate::bodies::store;
 use crate::bodies::transfer;
-use crate::fault::RecordFault;
-use crate::limits::Limits;
 use crate::operators::operator;
-use crate::parts::byte_at;
 use crate::record::Record;
 use code::own_map;
+use fields::Limits;
+use fields::RecordFault;
+use fields::parts::byte_at;
 
 // The fields of a record whose map is its kind's own, from the place behind map and kind on.
 fn body_at<'a>(limits: &Limits, bytes: &'a [u8], kind: u8, map: u8, at: usize) -> Found<'a>

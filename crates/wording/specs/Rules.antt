@@ -3,8 +3,8 @@ use Prim.Native.Nat.{ℕ}
 use mathlib.Core.List.{List, _++_}
 use mathlib.Core.Path.{_≡_}
 use lib.Chars.{codes}
-use Rattle.records.specs.declared.fault.RecordFault.{RecordFault}
-use Rattle.records.specs.declared.fault.RecordFault.the-variants.{EndsEarly, SlotTooFar, UnknownKind, NotInUse, BetweenClasses, TargetTooFar}
+use Rattle.fields.specs.declared.fault.RecordFault.{RecordFault}
+use Rattle.fields.specs.declared.fault.RecordFault.the-variants.{EndsEarly, SlotTooFar, UnknownKind, NotInUse, BetweenClasses, TargetTooFar}
 use Rattle.formula.specs.declared.fault.FormulaFault.{FormulaFault}
 use Rattle.formula.specs.declared.fault.FormulaFault.the-variants.{Record, OutOfRange, PaddingSet, BytesRemain, LastGoesOn}
 

@@ -2,10 +2,10 @@ use crate::spot::Spot;
 use crate::spot::byte;
 use crate::spot::first_refused;
 use crate::spot::number;
+use fields::RecordFault;
 use formula::FormulaFault;
 use formula::Header;
 use formula::header::read_header;
-use records::RecordFault;
 use std::alloc::AllocError;
 use std::alloc::Global;
 

@@ -3,8 +3,8 @@ ghost use Rattle.std.specs.Of.String.{string-bytes};
 ghost use Rattle.std.specs.Vec.{made};
 ghost use Rattle.wording.specs.Rules.{record-rule, rule, Begins};
 use crate::details::detail;
+use fields::RecordFault;
 use formula::FormulaFault;
-use records::RecordFault;
 use std::alloc::AllocError;
 use std::alloc::Global;
 

@@ -8,8 +8,8 @@ ghost use Rattle.formula.specs.Formulas as formulas;
 ghost use Rattle.formula.specs.Outcome.{rows-read};
 ghost use Rattle.formula.specs.Starts.{starts-from};
 use code::Code;
-use records::Limits;
-use records::RecordFault;
+use fields::Limits;
+use fields::RecordFault;
 use records::reader::Reader;
 
 // The rows of a formula, the places of their records, and the place behind them.

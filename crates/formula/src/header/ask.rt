@@ -2,7 +2,7 @@ ghost use Prim.Native.Nat.{_+_};
 ghost use mathlib.Core.Path.{_≡_};
 ghost use Rattle.formula.specs.Headers.{whole-bytes, limits-of, header-fields};
 use super::Header;
-use records::Limits;
+use fields::Limits;
 
 impl Header {
     // How many registers of class 0 are in use: 1 to 16.

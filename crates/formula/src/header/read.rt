@@ -2,16 +2,16 @@ ghost use Prim.Native.Nat.{_+_, _≤_, _^_, _<_};
 ghost use lib.ListN.{length};
 ghost use mathlib.Core.Path.{_≡_};
 ghost use Rattle.std.specs.Vec.{made};
-ghost use Rattle.records.specs.Outcome.{itself};
-ghost use Rattle.records.specs.Reading.{byte, two, part};
+ghost use Rattle.fields.specs.Outcome.{itself};
+ghost use Rattle.fields.specs.Reading.{byte, two, part};
 ghost use Rattle.formula.specs.Headers.{ranged, class-bits, header-at, whole-bytes, number};
 ghost use Rattle.formula.specs.Outcome.{read-as, header-read};
 use super::Header;
 use crate::fault::FormulaFault;
 use crate::fault::FormulaFaultFromRecord;
-use records::RecordFault;
-use records::parts::byte_at;
-use records::parts::two_at;
+use fields::RecordFault;
+use fields::parts::byte_at;
+use fields::parts::two_at;
 
 // How many registers of a class are in use: 1 to 16.
 fn bank_at(bytes: &[u8], at: usize) -> Result<u8, FormulaFault>

@@ -8,9 +8,9 @@ use denote.Ref.{now}
 use Rattle.std.proofs.shelf.Results.{err-from-errBy}
 use Rattle.code.specs.Codes.{rows-of, takes}
 use Rattle.code.specs.Rows.{fields}
-use Rattle.records.specs.Faults.{number-of, place-of}
+use Rattle.fields.specs.Faults.{number-of, place-of}
 use Rattle.records.specs.Keeping.{Bytes}
-use Rattle.records.specs.Reading.{got, bad}
+use Rattle.fields.specs.Reading.{got, bad}
 use Rattle.records.specs.Records.{record-at}
 use Rattle.records.proofs.RoundTrip.{record-sound}
 use Rattle.formula.proofs.Granting.{granted}

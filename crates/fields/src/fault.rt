@@ -1,5 +1,5 @@
 ghost use mathlib.Core.Path.{_≡_};
-ghost use Rattle.records.specs.Faults.{number-of, place-of};
+ghost use Rattle.fields.specs.Faults.{number-of, place-of};
 
 // Why a record is refused, each with the place that the refusal names.
 #[derive(Clone, Copy, PartialEq, Eq, Debug)]

@@ -1,5 +1,5 @@
 ghost use mathlib.Core.Path.{_≡_};
-ghost use Rattle.records.specs.InUse.{in-use, class-of, below-given};
+ghost use Rattle.fields.specs.InUse.{in-use, class-of, below-given};
 
 // What a record may hold: the registers and values in use, how far targets go, and whether slots may stand.
 #[derive(Clone, Copy)]

@@ -5,7 +5,7 @@ use native.Mathlib.Omega.{arith}
 use lib.Pow.{pow-mono}
 use Rattle.std.proofs.shelf.Ways.{tells}
 use borrow.Author.Needs.{needs}
-use Rattle.records.proofs.limits.Limits.class_of.Needs as need
+use Rattle.fields.proofs.limits.Limits.class_of.Needs as need
 
 pub returns-then-bit-ge128 : need.returns-then-bit-ge128
 returns-then-bit-ge128 c =

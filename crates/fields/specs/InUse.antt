@@ -4,7 +4,7 @@ use mathlib.Core.Bool.{Bool, true, false, cond, _&&_, _||_}
 use lib.Dec.{eqb, leb, ltb}
 use Rattle.std.specs.declared.option.Option.{Option}
 use Rattle.std.specs.declared.option.Option.the-variants.{Some, None}
-use Rattle.records.specs.declared.limits.Limits.{Limits}
+use Rattle.fields.specs.declared.limits.Limits.{Limits}
 
 -- registers of class 0 are numbered from 0, those of class 1 from 16, values from 32
 abbrev pub in-use : Limits → ℕ → Bool

@@ -1,7 +1,7 @@
 -- Every fault of a record by its number and the place that it names.
 use Prim.Native.Nat.{ℕ}
-use Rattle.records.specs.declared.fault.RecordFault.{RecordFault}
-use Rattle.records.specs.declared.fault.RecordFault.the-variants.{EndsEarly, SlotTooFar, UnknownKind, NotInUse, BetweenClasses, TargetTooFar}
+use Rattle.fields.specs.declared.fault.RecordFault.{RecordFault}
+use Rattle.fields.specs.declared.fault.RecordFault.the-variants.{EndsEarly, SlotTooFar, UnknownKind, NotInUse, BetweenClasses, TargetTooFar}
 
 abbrev pub number-of : RecordFault → ℕ
 number-of (EndsEarly at) = 3

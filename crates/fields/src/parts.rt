@@ -2,8 +2,8 @@ ghost use Prim.Native.Nat.{_+_, _≤_};
 ghost use lib.ListN.{length};
 ghost use mathlib.Core.Path.{_≡_};
 ghost use Rattle.std.specs.Vec.{made};
-ghost use Rattle.records.specs.Outcome.{read-as, itself};
-ghost use Rattle.records.specs.Reading.{byte, two, part};
+ghost use Rattle.fields.specs.Outcome.{read-as, itself};
+ghost use Rattle.fields.specs.Reading.{byte, two, part};
 use crate::fault::RecordFault;
 
 // The byte at a place.
