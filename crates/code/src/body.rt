@@ -7,6 +7,7 @@ ghost use Rattle.code.specs.declared.row.Row.the-variants.{End};
 use crate::row::Row;
 
 mod ask;
+mod bounds;
 mod build;
 
 // The most rows, and the most numbers, that a piece of code has.

@@ -23,8 +23,8 @@ pub enum FormulaFault {
 pub impl From<RecordFault> for FormulaFault as FormulaFaultFromRecord {
     ghost converts = { λ e r. r ≡ Record e };
 
-    fn from(fault: RecordFault) -> FormulaFault {
-        FormulaFault::Record(fault)
+    fn from(inner: RecordFault) -> FormulaFault {
+        FormulaFault::Record(inner)
     }
 }
 

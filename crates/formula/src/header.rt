@@ -1,6 +1,7 @@
 ghost use Prim.Native.Nat.{_<_, _≤_, _^_};
 
 mod ask;
+mod limits;
 mod read;
 
 pub use read::read_header;

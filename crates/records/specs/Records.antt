@@ -29,10 +29,14 @@ fields-at l bytes moves k m place =
       slot = slot;
     }) p₆))))))
 
--- the record at a place; a map that is not the kind's own is refusal 6, at the record's first byte
-unfoldable pub record-at : Limits → List ℕ → ℕ → Read Fields
-record-at l bytes at =
+-- map and kind, and then the fields; a map that is not the kind's own is refusal 6, at the record's first byte
+abbrev pub parsed-at : Limits → List ℕ → ℕ → Read Fields
+parsed-at l bytes at =
     then (byte bytes at) (λ m p₁.
     then (byte bytes p₁) (λ k p₂.
     let body = fields-at l bytes (eqb k 3) k m p₂ in
     cond (own (isSome (l .slots)) k m) body (bad 6 at)))
+
+-- the record at a place
+unfoldable pub record-at : Limits → List ℕ → ℕ → Read Fields
+record-at l bytes at = parsed-at l bytes at

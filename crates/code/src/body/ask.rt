@@ -1,5 +1,3 @@
-ghost use Prim.Native.Nat.{ℕ};
-ghost use lib.ListN.{length};
 ghost use mathlib.Core.Bool.{true};
 ghost use mathlib.Core.Path.{_≡_};
 ghost use Rattle.std.specs.Options.{mapped, Cases};
@@ -11,27 +9,6 @@ use super::Code;
 use crate::row::Row;
 
 impl Code {
-    // How many rows there are.
-    pub fn len(&self) -> usize
-        ensures { λ r. ⌜ r ≡ length (rows-of (now (self .entry))) ⌝ }
-    {
-        self.len
-    }
-
-    // How many rows there may be; targets are below it.
-    pub fn reach(&self) -> usize
-        ensures { λ r. ⌜ r ≡ now (self .entry) .reach ⌝ }
-    {
-        self.reach
-    }
-
-    // The numbers of the rows are below it.
-    pub fn numbers(&self) -> usize
-        ensures { λ r. ⌜ r ≡ now (self .entry) .numbers ⌝ }
-    {
-        self.numbers
-    }
-
     // The row at a place, where there is one.
     pub fn row(&self, place: usize) -> Option<Row>
         ensures value { λ r. ⌜ mapped fields r ≡ nth (rows-of (now (self .entry))) place ⌝ }
