@@ -27,6 +27,8 @@ in words which rule was broken, where, what stands there and what would have bee
  9  a target not below the number of records   at the field's first byte
 10  bytes remain behind the records            at the first of them
 11  the last record is no jump and no end      at the record's first byte
+12  a value may be read before it is set       at the lowest such value
 
-Whether a value is used before it is set is not checked yet.
+The rules are checked in this order, a record's fields one by one, and the first
+one that is broken is told. Values are numbered from 32.
 ";

@@ -101,7 +101,10 @@ module _ (input : List ℕ) (ok : Bytes input) (f : Formula) where
       rw (head, rows .1, le-ltb _ _ end, k .last) refl
 
 pub accepts-writings : Accepts-writings
-accepts-writings input ok f = (accepted-sound input ok f, accepted-complete input ok f)
+accepts-writings input ok f = (
+  λ a. let s = accepted-sound input ok f (a .0) in (s .0, (s .1, a .1)),
+  λ w. (accepted-complete input ok f (w .0, w .1 .0), w .1 .1),
+)
 
 all-bytes-of : (k n : ℕ) → all-bytes (bytes-of k n) ≡ true
 all-bytes-of zero n = refl
@@ -125,4 +128,4 @@ written-bytes f k =
 pub distinct-writings : Distinct-writings
 distinct-writings f g kf kg same =
     let ok = written-bytes f kf in
-    got-value (sym (accepts-writings (formula-bytes f) ok f .1 (refl, kf)) ∙ accepts-writings (formula-bytes f) ok g .1 (same, kg))
+    got-value (sym (accepted-complete (formula-bytes f) ok f (refl, kf)) ∙ accepted-complete (formula-bytes f) ok g (same, kg))

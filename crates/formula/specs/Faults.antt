@@ -2,7 +2,7 @@
 use Prim.Native.Nat.{ℕ}
 use Rattle.fields.specs.Faults as records
 use Rattle.formula.specs.declared.fault.FormulaFault.{FormulaFault}
-use Rattle.formula.specs.declared.fault.FormulaFault.the-variants.{Record, OutOfRange, PaddingSet, BytesRemain, LastGoesOn}
+use Rattle.formula.specs.declared.fault.FormulaFault.the-variants.{Record, OutOfRange, PaddingSet, BytesRemain, LastGoesOn, UsedBeforeSet}
 
 abbrev pub number-of : FormulaFault → ℕ
 number-of (Record fault) = records.number-of fault
@@ -10,6 +10,7 @@ number-of (OutOfRange at) = 4
 number-of (PaddingSet at) = 5
 number-of (BytesRemain at) = 10
 number-of (LastGoesOn at) = 11
+number-of (UsedBeforeSet value) = 12
 
 abbrev pub place-of : FormulaFault → ℕ
 place-of (Record fault) = records.place-of fault
@@ -17,3 +18,4 @@ place-of (OutOfRange at) = at
 place-of (PaddingSet at) = at
 place-of (BytesRemain at) = at
 place-of (LastGoesOn at) = at
+place-of (UsedBeforeSet value) = value

@@ -1,6 +1,7 @@
 -- What the calls answer, as readings.
 use Prim.Native.Nat.{ℕ, _+_}
 use mathlib.Core.List.{List}
+use mathlib.Core.Path.{_≡_}
 use lib.ListN.{length}
 use Rattle.std.specs.declared.result.Result.{Result}
 use Rattle.std.specs.declared.result.Result.the-variants.{Ok, Err}
@@ -8,6 +9,8 @@ use Rattle.code.specs.Codes.{rows-of}
 use Rattle.fields.specs.Faults as records
 use Rattle.fields.specs.Reading.{Read, got, bad}
 use Rattle.fields.specs.declared.fault.RecordFault.{RecordFault}
+use Rattle.liveness.specs.Laws.{AllDefined}
+use Rattle.liveness.specs.Ways.{LowestUndefined}
 use Rattle.formula.specs.Faults.{number-of, place-of}
 use Rattle.formula.specs.Formulas as formulas
 use Rattle.formula.specs.Headers as headers
@@ -44,3 +47,10 @@ formula-read bytes (Err fault) = bad (number-of fault) (place-of fault)
 -- the place of each record's first byte
 abbrev pub starts-of : Formula → List ℕ
 starts-of f = starts-from (6 + headers.whole-bytes (f .header .values)) (rows-of (f .code))
+
+-- the last check of a formula that was read: no value may be live before the first row. Refusal 12 names the lowest that is
+abbrev pub Answered : Read formulas.Formula → Result Formula FormulaFault → Type 0
+Answered (bad number place) (Ok f) = ⊥
+Answered (bad number place) (Err fault) = (number-of fault ≡ number) × (place-of fault ≡ place)
+Answered (got written place) (Ok f) = (meaning f ≡ written) × AllDefined (written .rows)
+Answered (got written place) (Err fault) = (number-of fault ≡ 12) × LowestUndefined (written .rows) (place-of fault)

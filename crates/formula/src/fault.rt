@@ -18,6 +18,8 @@ pub enum FormulaFault {
     BytesRemain { at: usize },
     // the last record is no jump and no end; its first byte
     LastGoesOn { at: usize },
+    // a value may be read before any record sets it; the lowest such value, in place of a byte
+    UsedBeforeSet { value: u16 },
 }
 
 pub impl From<RecordFault> for FormulaFault as FormulaFaultFromRecord {
@@ -39,10 +41,11 @@ impl FormulaFault {
             FormulaFault::PaddingSet { .. } => 5,
             FormulaFault::BytesRemain { .. } => 10,
             FormulaFault::LastGoesOn { .. } => 11,
+            FormulaFault::UsedBeforeSet { .. } => 12,
         }
     }
 
-    // The place that the refusal names.
+    // The place that the refusal names: a byte or, for a value used before it is set, that value.
     pub fn place(self) -> usize
         ensures { λ r. ⌜ r ≡ place-of self ⌝ }
     {
@@ -52,6 +55,7 @@ impl FormulaFault {
             FormulaFault::PaddingSet { at } => at,
             FormulaFault::BytesRemain { at } => at,
             FormulaFault::LastGoesOn { at } => at,
+            FormulaFault::UsedBeforeSet { value } => value as usize,
         }
     }
 }

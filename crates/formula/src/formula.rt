@@ -12,6 +12,7 @@ mod read;
 mod rows;
 
 pub use read::read_formula;
+pub use read::read_written;
 
 // A formula in order: its header, its rows, and the place of each record's first byte.
 #[derive(Clone, Copy)]

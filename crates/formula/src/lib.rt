@@ -5,4 +5,5 @@ pub mod header;
 pub use fault::FormulaFault;
 pub use formula::Formula;
 pub use formula::read_formula;
+pub use formula::read_written;
 pub use header::Header;

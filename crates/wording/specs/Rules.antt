@@ -6,7 +6,7 @@ use lib.Chars.{codes}
 use Rattle.fields.specs.declared.fault.RecordFault.{RecordFault}
 use Rattle.fields.specs.declared.fault.RecordFault.the-variants.{EndsEarly, SlotTooFar, UnknownKind, NotInUse, BetweenClasses, TargetTooFar}
 use Rattle.formula.specs.declared.fault.FormulaFault.{FormulaFault}
-use Rattle.formula.specs.declared.fault.FormulaFault.the-variants.{Record, OutOfRange, PaddingSet, BytesRemain, LastGoesOn}
+use Rattle.formula.specs.declared.fault.FormulaFault.the-variants.{Record, OutOfRange, PaddingSet, BytesRemain, LastGoesOn, UsedBeforeSet}
 
 abbrev pub record-rule : RecordFault → List ℕ
 record-rule (EndsEarly at) = codes "the input ends early"
@@ -22,6 +22,7 @@ rule (OutOfRange at) = codes "header field out of range"
 rule (PaddingSet at) = codes "padding bit set"
 rule (BytesRemain at) = codes "bytes remain"
 rule (LastGoesOn at) = codes "the last record goes on"
+rule (UsedBeforeSet value) = codes "used before it is set"
 
 -- a text that begins with these words
 abbrev pub Begins : List ℕ → List ℕ → Type 0

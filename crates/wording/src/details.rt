@@ -1,3 +1,4 @@
+use crate::route::used_before_set;
 use crate::spot::Spot;
 use crate::spot::byte;
 use crate::spot::first_refused;
@@ -20,6 +21,7 @@ pub fn detail(heap: Global, bytes: &[u8], fault: FormulaFault) -> Result<String,
         FormulaFault::PaddingSet { at } => padding_set(heap, bytes, at),
         FormulaFault::BytesRemain { at } => bytes_remain(heap, bytes, at),
         FormulaFault::LastGoesOn { at } => last_goes_on(heap, bytes, at),
+        FormulaFault::UsedBeforeSet { value } => used_before_set(heap, bytes, value),
     }
 }
 

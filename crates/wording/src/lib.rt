@@ -1,4 +1,5 @@
 mod details;
+mod route;
 mod spot;
 pub mod words;
 

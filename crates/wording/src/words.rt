@@ -30,6 +30,7 @@ fn rule_of(fault: FormulaFault) -> &'static str
         FormulaFault::PaddingSet { .. } => "padding bit set",
         FormulaFault::BytesRemain { .. } => "bytes remain",
         FormulaFault::LastGoesOn { .. } => "the last record goes on",
+        FormulaFault::UsedBeforeSet { .. } => "used before it is set",
     }
 }
 

@@ -4,7 +4,7 @@ ghost use mathlib.Core.Path.{_≡_};
 ghost use Rattle.code.specs.Codes.{rows-of};
 ghost use Rattle.formula.specs.Formulas.{formula-at};
 ghost use Rattle.formula.specs.Laws.{Accepts-writings, Distinct-writings};
-ghost use Rattle.formula.specs.Outcome.{formula-read};
+ghost use Rattle.formula.specs.Outcome.{formula-read, Answered};
 ghost use Rattle.formula.specs.Worked.{Worked};
 use super::Formula;
 use super::rows::read_rows;
@@ -13,6 +13,7 @@ use crate::fault::FormulaFaultFromRecord;
 use crate::header::Header;
 use crate::header::read_header;
 use code::Code;
+use liveness::first_undefined;
 
 // Code with room for the formula's records and no row yet.
 fn empty_code(header: &Header) -> Code
@@ -21,12 +22,9 @@ fn empty_code(header: &Header) -> Code
     Code::new(32 + header.values() as usize, header.records() as usize).unwrap()
 }
 
-// The formula that these bytes are, or the rule that they break and its place.
-pub fn read_formula(bytes: &[u8]) -> Result<Formula, FormulaFault>
-    ensures value { λ r. ⌜ formula-read (now (bytes .entry)) r ≡ formula-at (now (bytes .entry)) ⌝ }
-    ensures accepts { λ r. ⌜ Accepts-writings ⌝ }
-    ensures distinct { λ r. ⌜ Distinct-writings ⌝ }
-    ensures worked { λ r. ⌜ Worked ⌝ }
+// The formula that these bytes are by every rule but the last: whether values are set before they are used is not looked at.
+pub fn read_written(bytes: &[u8]) -> Result<Formula, FormulaFault>
+    ensures { λ r. ⌜ formula-read (now (bytes .entry)) r ≡ formula-at (now (bytes .entry)) ⌝ }
 {
     let header = read_header(bytes)?;
     let body = read_rows(&header.limits(), bytes, header.end(), empty_code(&header))?;
@@ -42,4 +40,18 @@ pub fn read_formula(bytes: &[u8]) -> Result<Formula, FormulaFault>
         code: body.code,
         starts,
     })
+}
+
+// The formula that these bytes are, or the rule that they break and its place.
+pub fn read_formula(bytes: &[u8]) -> Result<Formula, FormulaFault>
+    ensures answer { λ r. ⌜ Answered (formula-at (now (bytes .entry))) r ⌝ }
+    ensures accepts { λ r. ⌜ Accepts-writings ⌝ }
+    ensures distinct { λ r. ⌜ Distinct-writings ⌝ }
+    ensures worked { λ r. ⌜ Worked ⌝ }
+{
+    let formula = read_written(bytes)?;
+    match first_undefined(formula.code()) {
+        Some(value) => Err(FormulaFault::UsedBeforeSet { value }),
+        None => Ok(formula),
+    }
 }

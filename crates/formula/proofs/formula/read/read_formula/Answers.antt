@@ -1,49 +1,27 @@
-use mathlib.Core.Bool.{true, false, not}
-use mathlib.Core.Path.{_≡_, refl, sym, _∙_}
-use borrow.Author.Needs.{needs}
-use lib.ListN.{length}
-use Rattle.std.proofs.shelf.Tests.{lt-ltb, le-ltb, not-true, not-false}
-use Rattle.formula.specs.Formulas.{formula-at, finished}
-use Rattle.formula.specs.Headers.{header-fields}
-use Rattle.formula.proofs.Assembling.{assembled}
+use mathlib.Core.Path.{_≡_, refl, sym}
+use denote.Ref.{now}
+use Rattle.std.proofs.shelf.Results.{err-from-errBy}
+use Rattle.code.specs.Codes.{rows-of}
+use Rattle.liveness.specs.Laws.{AllDefined}
+use Rattle.liveness.specs.Ways.{LowestUndefined}
 use Rattle.formula.proofs.FormulaTrip.{accepts-writings, distinct-writings}
 use Rattle.formula.proofs.WorkedCases.{worked}
 use Rattle.formula.proofs.formula.read.read_formula.Needs as need
 
-pub returns-in-Break-header : need.returns-in-Break-header
-unfolding formula-at
-returns-in-Break-header c = record { value = search needs; accepts = accepts-writings; distinct = distinct-writings; worked = worked }
+pub returns-in-Break-formula : need.returns-in-Break-formula
+returns-in-Break-formula c =
+    let p = err-from-errBy (c .from-residual .result) (c .from-residual .ensures .1) in
+    let e = c .in-Break-formula .ensures tt in
+    record { answer = rw (p .1, p .2, ← e) (refl, refl); accepts = accepts-writings; distinct = distinct-writings; worked = worked }
 
-pub returns-in-Break-body : need.returns-in-Break-body
-unfolding formula-at
-returns-in-Break-body c = record { value = search needs; accepts = accepts-writings; distinct = distinct-writings; worked = worked }
+pub returns-in-Some : need.returns-in-Some
+returns-in-Some c =
+    let e = c .in-Continue-formula .ensures tt in
+    let h : LowestUndefined (rows-of (c .in-Continue-formula .formula .code)) (c .in-Some .value) = rw (c .code .ensures) at (c .in-Some .ensures tt) in
+    record { answer = rw (← e) (refl, h); accepts = accepts-writings; distinct = distinct-writings; worked = worked }
 
-pub returns-then-body-bytes : need.returns-then-body-bytes
-returns-then-body-bytes c =
-    let h = c .in-Continue-header .header in
-    let all = assembled (c .args .bytes .now) (header-fields h) _ (c .limits .result) (c .end .result) (c .empty-code .result .reach) _ (c .in-Continue-body .body .end)
-    (c .in-Continue-header .ensures tt) (c .limits .ensures) (c .end .ensures) (c .empty-code .ensures .1) (c .in-Continue-body .ensures tt .value) in
-    record { value = sym (all ∙ rw (lt-ltb _ _ (c .if-body-bytes .taken)) refl); accepts = accepts-writings; distinct = distinct-writings; worked = worked }
-
-pub returns-then-not-body : need.returns-then-not-body
-returns-then-not-body c =
-    let h = c .in-Continue-header .header in
-    let all = assembled (c .args .bytes .now) (header-fields h) _ (c .limits .result) (c .end .result) (c .empty-code .result .reach) _ (c .in-Continue-body .body .end)
-    (c .in-Continue-header .ensures tt) (c .limits .ensures) (c .end .ensures) (c .empty-code .ensures .1) (c .in-Continue-body .ensures tt .value) in
-    let open-end = sym (c .in-Continue-body .ensures tt .closed) ∙ not-true _ (c .if-not-body .taken) in
-    record { value = sym (all ∙ rw (le-ltb _ _ (c .if-body-bytes .left), open-end) refl); accepts = accepts-writings; distinct = distinct-writings; worked = worked }
-
-pub ghost-result : need.ghost-result
-ghost-result c =
-    let b = c .in-Continue-body .ensures tt .bounds in
-    let e = c .empty-code .ensures in
-    (b .3, (b .0 ∙ e .1, (b .2 ∙ e .1, (b .1 ∙ e .2, (rw (e .1, c .end .ensures) at (c .in-Continue-body .ensures tt .starts), tt)))))
-
-pub returns : need.returns
-returns c =
-    let h = c .in-Continue-header .header in
-    let all = assembled (c .args .bytes .now) (header-fields h) _ (c .limits .result) (c .end .result) (c .empty-code .result .reach) _ (c .in-Continue-body .body .end)
-    (c .in-Continue-header .ensures tt) (c .limits .ensures) (c .end .ensures) (c .empty-code .ensures .1) (c .in-Continue-body .ensures tt .value) in
-    let was : c .in-Continue-body .body .closed ≡ true = not-false _ (c .if-not-body .left) in
-    let ends = sym (c .in-Continue-body .ensures tt .closed) ∙ was in
-    record { value = sym (all ∙ rw (le-ltb _ _ (c .if-body-bytes .left), ends) refl); accepts = accepts-writings; distinct = distinct-writings; worked = worked }
+pub returns-in-None : need.returns-in-None
+returns-in-None c =
+    let e = c .in-Continue-formula .ensures tt in
+    let h : AllDefined (rows-of (c .in-Continue-formula .formula .code)) = rw (c .code .ensures) at (c .in-None .ensures tt) in
+    record { answer = rw (← e) (refl, h); accepts = accepts-writings; distinct = distinct-writings; worked = worked }

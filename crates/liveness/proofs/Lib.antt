@@ -1,0 +1,9 @@
+pub mod Finding
+pub mod Firsts
+pub mod Lawful
+pub mod Leading
+pub mod Members
+pub mod Places
+pub mod Ranking
+pub mod Sweeping
+pub mod Sweeps
