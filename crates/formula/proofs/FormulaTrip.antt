@@ -13,7 +13,7 @@ use Rattle.std.proofs.shelf.Tests.{ltb-false, le-ltb, lt-ltb, and-from}
 use Rattle.code.specs.Rows.{Fields}
 use Rattle.code.specs.Writing.{two-bytes, row-bytes, rows-bytes}
 use Rattle.records.specs.Keeping.{Bytes, Stands, all-bytes}
-use Rattle.fields.specs.Reading.{Read, got, bad}
+use Rattle.fields.specs.Reading.{Read, got, bad, then}
 use Rattle.fields.specs.declared.limits.Limits.{Limits}
 use Rattle.std.specs.declared.option.Option.the-variants.{None}
 use Rattle.records.proofs.Codec.{never, then-elim, got-value, got-place}
@@ -28,7 +28,7 @@ use Rattle.formula.proofs.HeaderTrip.{written, Ranges, header-sound, header-co
 use Rattle.formula.proofs.RowsTrip.{rows-sound, rows-complete}
 
 finished-elim : {C : Type 0} (left shut : Bool) (place n last : ℕ) (g f : Formula) (q : ℕ)
-    → cond left (bad 10 place) (cond shut (got g n) (bad 11 last)) ≡ got f q
+    → then (cond left (bad 10 place) (cond shut (got tt n) (bad 11 last))) (λ (_ : Unit {0}) end. got g end) ≡ got f q
     → (left ≡ false → shut ≡ true → g ≡ f → C) → C
 finished-elim true shut place n last g f q e use-it = absurd (never e)
 finished-elim false true place n last g f q e use-it = use-it refl refl (got-value e)

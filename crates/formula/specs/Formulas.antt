@@ -46,10 +46,14 @@ pub record Formula : Type 0 where
 abbrev pub with-rows : headers.Fields → List Fields → Formula
 with-rows h rows = record { k0 = h .k0; k1 = h .k1; values = h .values; classes = h .classes; rows = rows }
 
--- bytes that remain are refusal 10, a last record that goes on is refusal 11
+-- bytes that remain behind the place are refusal 10, a last record that goes on is refusal 11
+abbrev pub ended : ℕ → ℕ → Bool → ℕ → Read (Unit {0})
+ended len place shut last = cond (ltb place len) (bad 10 place) (cond shut (got tt len) (bad 11 last))
+
+-- the formula of a header and the rows behind it
 abbrev pub finished : List ℕ → headers.Fields → Rows → ℕ → Read Formula
 finished bytes h r place =
-    cond (ltb place (length bytes)) (bad 10 place) (cond (closed (r .rows)) (got (with-rows h (r .rows)) (length bytes)) (bad 11 (r .last)))
+    then (ended (length bytes) place (closed (r .rows)) (r .last)) (λ _ end. got (with-rows h (r .rows)) end)
 
 unfoldable pub formula-at : List ℕ → Read Formula
 formula-at bytes =
