@@ -7,6 +7,7 @@ use Rattle.std.specs.declared.option.Option.the-variants.{Some, None}
 use Rattle.code.specs.Codes.{moves-in}
 use Rattle.code.specs.Rows.{Fields}
 use Rattle.fields.specs.Reading.{Read, got, bad}
+use Rattle.liveness.specs.Laws.{AllDefined}
 use Rattle.formula.specs.Formulas.{Formula, formula-at}
 
 -- two registers of class 0, one of class 1, three values; constant 32, move 33 from 32, operator 34 from 33 and 33, give 34, end
@@ -40,5 +41,6 @@ pub record Worked : Type 0 where
   pub no-records : formula-at (1 ∷ 1 ∷ 96 ∷ 0 ∷ 0 ∷ 0 ∷ []) ≡ bad 4 4
   -- a formula in order, with five records, three values and one move
   pub accepted : formula-at square-bytes ≡ got square 39
+  pub defined : AllDefined (square .rows)
   pub five-records : length (square .rows) ≡ 5
   pub one-move : moves-in (square .rows) ≡ 1
