@@ -1,7 +1,6 @@
 ghost use Prim.Native.Nat.{_≤_};
 ghost use lib.ListN.{length};
 ghost use Rattle.std.specs.Vec.{made};
-use std::error::AnyError;
 use std::fs::File;
 use std::io;
 use std::io::Read;
@@ -33,14 +32,9 @@ pub fn from_stdin(rt: &LibcRuntime, buffer: &mut [u8]) -> io::Result<usize>
     fill(&mut rt.stdin(), buffer)
 }
 
-pub fn from_file(rt: &LibcRuntime, path: &str, buffer: &mut [u8]) -> Result<usize, AnyError>
+pub fn from_file(rt: &LibcRuntime, path: &str, buffer: &mut [u8]) -> io::Result<usize>
     ensures { λ r. ⌜ made r (λ len. len ≤ length (now (buffer .exit))) ⌝ }
 {
-    match File::open(rt, path) {
-        Ok(mut file) => Ok(fill(&mut file, buffer)?),
-        Err(e) => {
-            eprint!(rt, "allot: {path} cannot be read: {e}\n")?;
-            Err(e.into())
-        }
-    }
+    let mut file = File::open(rt, path)?;
+    fill(&mut file, buffer)
 }

@@ -6,6 +6,7 @@ use answers::refused;
 use formula::read_formula;
 use std::env;
 use std::error::AnyError;
+use std::io;
 use wording::explain;
 
 // Checks one formula: prints what it has, or the refusal and, on standard error, its reason in words.
@@ -26,13 +27,33 @@ fn check(rt: &LibcRuntime, bytes: &[u8]) -> Result<(), AnyError> {
     }
 }
 
+// What cannot be read is told by its name and the reason.
+fn unread(rt: &LibcRuntime, name: &str, error: io::Error) -> Result<(), AnyError> {
+    eprint!(rt, "allot: {name} cannot be read: {error}\n")?;
+    Err(error.into())
+}
+
+fn from_stdin(rt: &LibcRuntime) -> Result<(), AnyError> {
+    let mut buffer = [0u8; input::MOST];
+    match input::from_stdin(rt, &mut buffer) {
+        Ok(len) => check(rt, &buffer[0..len]),
+        Err(error) => unread(rt, "standard input", error),
+    }
+}
+
+fn from_file(rt: &LibcRuntime, path: &str) -> Result<(), AnyError> {
+    let mut buffer = [0u8; input::MOST];
+    match input::from_file(rt, path, &mut buffer) {
+        Ok(len) => check(rt, &buffer[0..len]),
+        Err(error) => unread(rt, path, error),
+    }
+}
+
 fn run(rt: &LibcRuntime) -> Result<(), AnyError> {
     let mut args = env::args(rt)?;
     let _program = args.next();
-    let mut buffer = [0u8; input::MOST];
     let Some(first) = args.next() else {
-        let len = input::from_stdin(rt, &mut buffer)?;
-        return check(rt, &buffer[0..len]);
+        return from_stdin(rt);
     };
     if first == "--help" {
         print!(rt, "{}", help::TEXT)?;
@@ -42,8 +63,7 @@ fn run(rt: &LibcRuntime) -> Result<(), AnyError> {
         eprint!(rt, "allot: one file at most; allot --help explains\n")?;
         return Err("usage".into());
     }
-    let len = input::from_file(rt, first.as_str(), &mut buffer)?;
-    check(rt, &buffer[0..len])
+    from_file(rt, first.as_str())
 }
 
 fn main(rt: LibcRuntime) -> Result<(), AnyError> {

@@ -8,15 +8,15 @@ use Rattle.code.specs.Codes.{rows-of}
 use Rattle.code.specs.declared.row.Row.the-variants.{Constant}
 use Rattle.code.proofs.Asking.{moves-more}
 use Rattle.code.proofs.body.Code.moves.Needs as need
-use Rattle.code.proofs.body.Code.moves.Needs.{then-kind-eq3, else-kind-eq3}
+use Rattle.code.proofs.body.Code.moves.Needs.{then-is-move, else-is-move}
 
 pub loop-place-again : need.loop-place-again
 loop-place-again c =
     let inside : c .loop-place .place < length (c .args .self .now .rows) = omega arith in
     let more = moves-more (c .args .self .now .rows) (c .loop-place .place) (Constant 0 []) inside in
-    elim (c .if-kind-eq3 .came) [
-      | then-kind-eq3 w ↦ (grind (arith, tells, more), omega arith)
-      | else-kind-eq3 w ↦ (grind (arith, tells, more), omega arith)
+    elim (c .if-is-move .came) [
+      | then-is-move w ↦ (grind (arith, tells, more), omega arith)
+      | else-is-move w ↦ (grind (arith, tells, more), omega arith)
     ]
 
 pub returns : need.returns
