@@ -2,7 +2,7 @@
 pub const TEXT: &str = "allot: checks a pricing formula and names the rule it breaks and the byte
 
 usage: allot          a formula from standard input, at most 4,096 bytes of it
-       allot FILE     a formula from a file
+       allot FILE     a formula from a file, likewise
        allot --help   this text
 
 A formula in order prints three lines, its records, values and moves, as

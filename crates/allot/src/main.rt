@@ -59,8 +59,11 @@ fn run(rt: &LibcRuntime) -> Result<(), AnyError> {
         print!(rt, "{}", help::TEXT)?;
         return Ok(());
     }
-    if args.next().is_some() {
-        eprint!(rt, "allot: one file at most; allot --help explains\n")?;
+    if args.next().is_some() | first.as_str().starts_with("-") {
+        eprint!(
+            rt,
+            "allot: one file and no option but --help; allot --help explains\n"
+        )?;
         return Err("usage".into());
     }
     from_file(rt, first.as_str())

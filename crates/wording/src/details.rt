@@ -34,26 +34,21 @@ fn header_ends(heap: Global, len: usize) -> Result<String, AllocError> {
 
 fn out_of_range(heap: Global, bytes: &[u8], at: usize) -> Result<String, AllocError> {
     match at {
-        0 => out_of(
-            heap,
-            "registers of class 0",
-            byte(bytes, 0) as u16,
-            "1 to 16",
-            at,
-        ),
-        1 => out_of(
-            heap,
-            "registers of class 1",
-            byte(bytes, 1) as u16,
-            "1 to 16",
-            at,
-        ),
-        2 => out_of(heap, "values", number(bytes, 2), "0 to 96", at),
-        _ => out_of(heap, "records", number(bytes, 4), "1 to 128", at),
+        0 => bank_out_of_range(heap, 0, byte(bytes, 0), at),
+        1 => bank_out_of_range(heap, 1, byte(bytes, 1), at),
+        2 => count_out_of_range(heap, "values", number(bytes, 2), "0 to 96", at),
+        _ => count_out_of_range(heap, "records", number(bytes, 4), "1 to 128", at),
     }
 }
 
-fn out_of(
+fn bank_out_of_range(heap: Global, class: u8, found: u8, at: usize) -> Result<String, AllocError> {
+    format!(
+        heap,
+        "the number of registers of class {class}, at byte {at}, is {found} ({found:02X}h); right is 1 to 16"
+    )
+}
+
+fn count_out_of_range(
     heap: Global,
     field: &str,
     found: u16,
@@ -62,7 +57,7 @@ fn out_of(
 ) -> Result<String, AllocError> {
     format!(
         heap,
-        "the number of {field}, at byte {at}, is {found} ({found:X}h); right is {right}"
+        "the number of {field}, at byte {at}, is {found} ({found:04X}h); right is {right}"
     )
 }
 
@@ -77,11 +72,11 @@ fn padding_set(heap: Global, bytes: &[u8], at: usize) -> Result<String, AllocErr
 
 fn bytes_remain(heap: Global, bytes: &[u8], at: usize) -> Result<String, AllocError> {
     let found = byte(bytes, at);
-    let more = bytes.len().saturating_sub(at);
+    let more = bytes.len().saturating_sub(at).saturating_sub(1);
     let records = number(bytes, 4);
     format!(
         heap,
-        "the {records} records end before byte {at}, {found:02X}h, and {more} bytes follow; the input must end there"
+        "the {records} records end before byte {at}, {found:02X}h, with {more} more read behind it; the input must end there"
     )
 }
 
