@@ -1,4 +1,4 @@
-// Times the search for live numbers; without an argument it does nothing.
+// Times how live numbers are found; without an argument it does nothing.
 use code::Code;
 use code::Row;
 use liveness::Liveness;
@@ -6,7 +6,7 @@ use std::env;
 use std::io;
 use std::time::Instant;
 
-// How often each code is searched; a place of the answer is read each time, so that none of it is left out.
+// How often each code is gone over; a place of the answer is read each time, so that none of it is left out.
 const ROUNDS: usize = 201;
 
 // A row that sets one value from two others; every eighth row is a branch back, so that loops nest.

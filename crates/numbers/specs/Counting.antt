@@ -1,4 +1,4 @@
--- Counting and searching among the numbers that pass a test. The definitions are shut; proofs/Counting.antt has their laws.
+-- Counting and finding among the numbers that pass a test. The definitions are shut; proofs/Counting.antt has their laws.
 use Prim.Native.Nat.{ℕ, zero, suc, _+_}
 use mathlib.Core.Bool.{Bool, true, false, cond, _||_}
 use Rattle.std.specs.declared.option.Option.{Option}

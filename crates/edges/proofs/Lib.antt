@@ -1,0 +1,4 @@
+pub mod Places
+pub mod Finding
+pub mod Adding
+pub mod Joining

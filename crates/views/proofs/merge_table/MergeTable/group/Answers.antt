@@ -1,0 +1,8 @@
+use mathlib.Core.Path.{sym}
+use lib.ListN.{List·getD-eq-default}
+use Rattle.std.proofs.shelf.Tests.{ltb-false}
+use Rattle.views.proofs.merge_table.MergeTable.group.Needs as need
+
+pub returns-in-None : need.returns-in-None
+returns-in-None c =
+    sym (List·getD-eq-default (c .args .self .now .to) (c .args .v) (ltb-false _ _ (sym (c .in-None .ensures tt .finds .0))))
