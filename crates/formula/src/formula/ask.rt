@@ -1,3 +1,4 @@
+ghost use lib.Dec.{ltb};
 ghost use mathlib.Core.Path.{_≡_};
 ghost use Rattle.std.specs.shelf.Maps.{nth};
 ghost use Rattle.code.specs.Codes.{rows-of, moves-in};
@@ -29,11 +30,18 @@ impl Formula {
         self.code.moves()
     }
 
+    // Whether there is a record of this number.
+    fn has_record(&self, number: usize) -> bool
+        ensures { λ r. ⌜ r ≡ ltb number (now (self .entry) .header .records) ⌝ }
+    {
+        number < self.header.records() as usize
+    }
+
     // Where the record of this number begins.
     pub fn start(&self, number: usize) -> Option<usize>
         ensures { λ r. ⌜ r ≡ nth (starts-of (now (self .entry))) number ⌝ }
     {
-        if number >= self.header.records() as usize {
+        if !self.has_record(number) {
             return None;
         }
         Some(self.starts[number])
