@@ -2,7 +2,7 @@
 use formula::read_formula;
 
 // Two registers of class 0, one of class 1, three values; constant, move, operator, give, end.
-pub const SQUARE: [u8; 39] = [
+const SQUARE: [u8; 39] = [
     2,
     1,
     3,
@@ -45,7 +45,7 @@ pub const SQUARE: [u8; 39] = [
 ];
 
 // Two values, the second of class 1; a branch, a jump and an end.
-pub const WAYS: [u8; 31] = [
+const WAYS: [u8; 31] = [
     1,
     2,
     2,
@@ -80,7 +80,7 @@ pub const WAYS: [u8; 31] = [
 ];
 
 // The refusal's number and place; (0, 0) for a formula in order.
-pub fn refusal(bytes: &[u8]) -> (u8, usize) {
+fn refusal(bytes: &[u8]) -> (u8, usize) {
     match read_formula(bytes) {
         Ok(_) => (0, 0),
         Err(fault) => (fault.number(), fault.place()),
@@ -88,7 +88,7 @@ pub fn refusal(bytes: &[u8]) -> (u8, usize) {
 }
 
 // The refusal of the first formula with two of its bytes replaced.
-pub fn damaged(at: usize, byte: u8, and: usize, too: u8) -> (u8, usize) {
+fn damaged(at: usize, byte: u8, and: usize, too: u8) -> (u8, usize) {
     let mut bytes = SQUARE;
     if let Some(place) = bytes.get_mut(at) {
         *place = byte;
@@ -100,7 +100,7 @@ pub fn damaged(at: usize, byte: u8, and: usize, too: u8) -> (u8, usize) {
 }
 
 // The same of the second formula.
-pub fn bent(at: usize, byte: u8, and: usize, too: u8) -> (u8, usize) {
+fn bent(at: usize, byte: u8, and: usize, too: u8) -> (u8, usize) {
     let mut bytes = WAYS;
     if let Some(place) = bytes.get_mut(at) {
         *place = byte;
