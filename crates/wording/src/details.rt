@@ -11,7 +11,11 @@ use std::alloc::AllocError;
 use std::alloc::Global;
 
 // Where the rule was broken, what stands there and what would have been right.
-pub(crate) fn detail(heap: Global, bytes: &[u8], fault: FormulaFault) -> Result<String, AllocError> {
+pub(crate) fn detail(
+    heap: Global,
+    bytes: &[u8],
+    fault: FormulaFault,
+) -> Result<String, AllocError> {
     match fault {
         FormulaFault::Record(fault) => match read_header(bytes) {
             Ok(header) => in_record(heap, bytes, &header, fault),

@@ -22,7 +22,11 @@ fn listed(heap: Global, numbers: &[u16]) -> Result<String, AllocError> {
 }
 
 // The record that reads the value first, and the way there from the first record.
-pub(crate) fn used_before_set(heap: Global, bytes: &[u8], value: u16) -> Result<String, AllocError> {
+pub(crate) fn used_before_set(
+    heap: Global,
+    bytes: &[u8],
+    value: u16,
+) -> Result<String, AllocError> {
     let mut way = [0; 512];
     let count = way_to(bytes, value, &mut way).unwrap_or(0);
     let numbers = way.get(0..count).unwrap_or(&[]);
