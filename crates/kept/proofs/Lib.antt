@@ -1,0 +1,10 @@
+pub mod Told
+pub mod Facts
+pub mod Verdicts
+pub mod After
+pub mod Moving
+pub mod Rows
+pub mod Deciding
+pub mod Uniting
+pub mod Opening
+pub mod Colours

@@ -1,0 +1,4 @@
+pub mod Moves
+pub mod Sound
+pub mod Kept
+pub mod Answers
