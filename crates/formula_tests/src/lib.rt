@@ -189,6 +189,11 @@ mod tests {
             "bytes before the last record",
         )?;
         check_eq(refusal(&[1, 1, 0, 0, 1, 0, 8, 4, 0, 0]), (0, 0)).note("a jump at the end")?;
+        check_eq(refusal(&[17]), (4, 0)).note("a field is checked before the next is read")?;
+        check_eq(
+            refusal(&[1, 1, 1, 0, 2, 0, 0, 2, 6, 32, 0, 0, 7, 9]),
+            (10, 13),
+        ).note("bytes before a value that is not set")?;
         check_eq(refusal(&[1, 1, 0, 0, 1, 0, 8, 4, 1, 0, 0]), (9, 8)).note("target before bytes")
     }
 
