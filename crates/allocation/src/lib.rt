@@ -1,9 +1,11 @@
+#![tactic(auto)]
+
 // What allocation means: definitions and theorems. There is nothing to run: each function's contract is a theorem, so that none goes unproved.
-ghost use Rattle.allocation.specs.Worked.{Worked as Worked-formulas};
+ghost use Rattle.allocation.specs.Worked.{Worked as WorkedFormulas};
 
 // What becomes of two formulas, worked through.
 pub fn worked() -> u8
-    ensures { Worked-formulas }
+    ensures { WorkedFormulas }
 {
     0
 }

@@ -3,10 +3,10 @@ use Rattle.std.proofs.Common.{◌≡◌, ℕ, zero, suc, ◌+◌, ◌-◌, ◌<�
 use Rattle.std.proofs.lemmas.Bool.{cases_Bool, cases_lt, both_ways}
 use Rattle.graph.specs.Counting.{count, any}
 use Rattle.graph.proofs.Counting.{count_split, count_none}
-use Rattle.numbers.specs.Counting.{count as set-count}
+use Rattle.numbers.specs.Counting.{count as set_count}
 
-pub counts : (p : ℕ → Bool) (n : ℕ) → set-count p n ≡ count p n
-unfolding set-count
+pub counts : (p : ℕ → Bool) (n : ℕ) → set_count p n ≡ count p n
+unfolding set_count
 counts p zero = refl
 counts p (suc n) = ap (λ (k : ℕ). k + cond (p n) 1 0) (counts p n)
 
@@ -26,5 +26,5 @@ count_more p n m l none =
     omega arith
 
 -- how many are in a set: as many as pass a test that the set is of
-pub set_size : (p q : ℕ → Bool) (n : ℕ) → n ≤ 512 → ((v : ℕ) → p v ≡ q v) → ((v : ℕ) → n ≤ v → q v ≡ false) → set-count p 512 ≡ count q n
+pub set_size : (p q : ℕ → Bool) (n : ℕ) → n ≤ 512 → ((v : ℕ) → p v ≡ q v) → ((v : ℕ) → n ≤ v → q v ≡ false) → set_count p 512 ≡ count q n
 set_size p q n l same none = counts p 512 ∙ (count_same p q 512 (λ v _. same v) ∙ count_more q n 512 l none)

@@ -1,3 +1,5 @@
+#![tactic(auto)]
+
 // The graph of a session, as rows: the graph that it was opened over, and what merging has made of it.
 mod board;
 mod rows;

@@ -1,3 +1,5 @@
+#![tactic(auto)]
+
 // Giving out registers: groups that were removed get them back in the opposite order.
 mod filling;
 mod painting;

@@ -1,12 +1,12 @@
 // Looking for a word, slot by slot from the one that its hash names.
 ghost use Rattle.std.specs.Prelude.{◌≡◌, ◌<◌, length, replicate};
-ghost use Rattle.edges.specs.Keys.{key as key-for, place, start};
+ghost use Rattle.edges.specs.Keys.{key as key_for, place, start};
 ghost use Rattle.edges.specs.Table.{found_at, landing, slot_at};
 
 // The word of the pair u, v.
 pub(crate) fn key_of(u: usize, v: usize) -> u32
     requires { (u < 512) × (v < 512) }
-    ensures { result ≡ key-for u v }
+    ensures { result ≡ key_for u v }
 {
     (u.max(v) * 512 + u.min(v)) as u32
 }

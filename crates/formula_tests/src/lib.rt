@@ -1,3 +1,5 @@
+#![tactic(auto)]
+
 // Damaged formulas and their refusals, each worked out by hand from the rules of the byte format.
 use formula::read_formula;
 

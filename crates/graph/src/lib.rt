@@ -1,3 +1,5 @@
+#![tactic(auto)]
+
 // What a graph is, for everything that stores one, looks at one through a view, or works on one.
 pub mod class;
 pub mod opening;
@@ -7,7 +9,7 @@ pub mod store;
 pub mod task;
 
 ghost use Rattle.std.specs.Prelude.{◌≡◌, ℕ};
-ghost use Rattle.graph.specs.Shape.{Lawful, Meaning, degree as degree-of, next as next_of};
+ghost use Rattle.graph.specs.Shape.{Lawful, Meaning, degree as degree_of, next as next_of};
 ghost use Rattle.graph.specs.Joining.{join_answer, join_meaning};
 
 use refusal::Refusal;
@@ -34,7 +36,7 @@ pub trait Graph {
         ensures { result ≡ (means self.now).shape.joined u v };
 
     fn degree(&self, u: usize) -> usize
-        ensures { result ≡ degree-of (means self.now).shape u }
+        ensures { result ≡ degree_of (means self.now).shape u }
     {
         let n = self.size();
         let mut found = 0;

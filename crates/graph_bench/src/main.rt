@@ -1,3 +1,5 @@
+#![tactic(auto)]
+
 // Times the two stores against each other; without an argument it does nothing.
 use edges::edge_table::EdgeTable;
 use graph::Graph;

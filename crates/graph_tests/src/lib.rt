@@ -1,3 +1,5 @@
+#![tactic(auto)]
+
 // Stores and piles of views against a plain list of pairs.
 use graph::Graph;
 use piles::looks::Looks;

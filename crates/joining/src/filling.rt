@@ -15,9 +15,9 @@ use numbers::NumberSet;
 
 // Joins u to one number, if that is among the others.
 fn join_if<G: Graph>(graph: &mut G, u: usize, v: usize, others: &NumberSet) -> Result<(), Refusal>
-    ensures answer { result ≡ (filled (means graph.old) (map (edge u) (cond_one (has others.now v) v))).answer }
-    ensures after { means graph.new ≡ (filled (means graph.old) (map (edge u) (cond_one (has others.now v) v))).left }
-    ensures left { JoinedOn leaves graph.old graph.new }
+    ensures answer { result ≡ (filled (G.means graph.old) (map (edge u) (cond_one (has others.now v) v))).answer }
+    ensures after { G.means graph.new ≡ (filled (G.means graph.old) (map (edge u) (cond_one (has others.now v) v))).left }
+    ensures left { JoinedOn G.leaves graph.old graph.new }
 {
     if others.contains(v) {
         return graph.join(u, v);
@@ -27,9 +27,9 @@ fn join_if<G: Graph>(graph: &mut G, u: usize, v: usize, others: &NumberSet) -> R
 
 // Joins u to all the others below n, rising.
 fn join_all<G: Graph>(graph: &mut G, u: usize, others: &NumberSet, n: usize) -> Result<(), Refusal>
-    ensures answer { result ≡ (filled (means graph.old) (map (edge u) (passing (has others.now) n))).answer }
-    ensures after { means graph.new ≡ (filled (means graph.old) (map (edge u) (passing (has others.now) n))).left }
-    ensures left { JoinedOn leaves graph.old graph.new }
+    ensures answer { result ≡ (filled (G.means graph.old) (map (edge u) (passing (has others.now) n))).answer }
+    ensures after { G.means graph.new ≡ (filled (G.means graph.old) (map (edge u) (passing (has others.now) n))).left }
+    ensures left { JoinedOn G.leaves graph.old graph.new }
 {
     for v in 0..n {
         join_if(graph, u, v, others)?;
@@ -45,9 +45,9 @@ fn fill_row<G: Graph>(
     place: usize,
 ) -> Result<(), Refusal>
     requires { (v : ℕ) → after_of live.now place v ≡ live_after (rows_of code.now) place v }
-    ensures answer { result ≡ (filled (means graph.old) (row_edges (rows_of code.now) code.now.numbers place)).answer }
-    ensures after { means graph.new ≡ (filled (means graph.old) (row_edges (rows_of code.now) code.now.numbers place)).left }
-    ensures left { JoinedOn leaves graph.old graph.new }
+    ensures answer { result ≡ (filled (G.means graph.old) (row_edges (rows_of code.now) code.now.numbers place)).answer }
+    ensures after { G.means graph.new ≡ (filled (G.means graph.old) (row_edges (rows_of code.now) code.now.numbers place)).left }
+    ensures left { JoinedOn G.leaves graph.old graph.new }
 {
     let Some(row) = code.row(place) else {
         return Ok(());
@@ -65,9 +65,9 @@ fn fill_row<G: Graph>(
 
 // Joins every pair that the code joins, until the graph refuses one.
 pub fn fill<G: Graph>(graph: &mut G, code: &Code) -> Result<(), Refusal>
-    ensures answer { result ≡ (filled (means graph.old) (edges_of (rows_of code.now) code.now.numbers)).answer }
-    ensures after { means graph.new ≡ (filled (means graph.old) (edges_of (rows_of code.now) code.now.numbers)).left }
-    ensures left { JoinedOn leaves graph.old graph.new }
+    ensures answer { result ≡ (filled (G.means graph.old) (edges_of (rows_of code.now) code.now.numbers)).answer }
+    ensures after { G.means graph.new ≡ (filled (G.means graph.old) (edges_of (rows_of code.now) code.now.numbers)).left }
+    ensures left { JoinedOn G.leaves graph.old graph.new }
 {
     let live = Liveness::of(code);
     for place in 0..code.len() {

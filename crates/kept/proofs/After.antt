@@ -17,7 +17,7 @@ use Rattle.session_laws.specs.Outcomes.{outcome}
 use Rattle.session_laws.specs.Runs.{left_by, closing_all, closed}
 use Rattle.session_laws.proofs.Granting.{grounds}
 use Rattle.session_laws.proofs.Sound.{keeps_sound}
-use Rattle.standing.specs.Standing.{board_of, is_left, base_of as base-under}
+use Rattle.standing.specs.Standing.{board_of, is_left, base_of as base_under}
 use Rattle.standing.specs.declared.standing.Standing.{Standing}
 use Rattle.kept.specs.Moves.{moves_of, move_of}
 use Rattle.kept.specs.Sound.{SoundKept, state_over}
@@ -34,7 +34,7 @@ pub state_same : (t t' : ℕ → ℕ) (r r' : List ℕ) (m m' : List Move) (p p'
 state_same t t' r r' m m' p p' et er em ep = λ i. record { table = et i; removed = er i; moves = em i; temporary = ep i }
 
 pub sound_after : (k : Kept) (standing : Standing) (removed : List ℕ) (top : ℕ) (moves : List Row) (many : ℕ) (temporaries : NumberSet) (o : Outcome) →
-    length removed ≡ 512 → length moves ≡ 128 → top ≤ 512 → many ≤ 128 → base-under standing ≡ base_of k →
+    length removed ≡ 512 → length moves ≡ 128 → top ≤ 512 → many ≤ 128 → base_under standing ≡ base_of k →
     state_over standing removed top moves many temporaries ≡ left_by (state_of k) o → GrantedOn (base_of k) (state_of k) o →
     ((w : ℕ) → is_left standing w ≡ (standing_graph (base_of k) (left_by (state_of k) o)).stands w) →
     SoundKept standing removed top moves many temporaries
@@ -126,7 +126,7 @@ apart_together s m = refl
 -- ---- simplify and push: v is taken away
 
 module _ (k : Kept) (v : ℕ) (standing : Standing) (moves : List Row) (top : ℕ) (room : top + 1 ≡ k.top)
-    (base : base-under standing ≡ base-under k.standing) (board : board_of standing ≡ board_of k.standing)
+    (base : base_under standing ≡ base_under k.standing) (board : board_of standing ≡ board_of k.standing)
     (left : (w : ℕ) → is_left standing w ≡ (is_left k.standing w && not (eqb w v))) (whole : length moves ≡ 128) where
   gone : drop top (set k.removed top v) ≡ v ∷ drop k.top k.removed
   gone =

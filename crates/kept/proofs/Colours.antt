@@ -10,7 +10,7 @@ use Rattle.session_laws.specs.Calls.{Call, refused, coloured}
 use Rattle.session_laws.specs.Colouring.{register_of, group_register, own_number, painted}
 use Rattle.session_laws.specs.Outcomes.{outcome, colour_outcome}
 use Rattle.session_laws.specs.Runs.{called, left_by}
-use Rattle.standing.specs.Standing.{graph_of, loose_in, board_of, base_of as base-under}
+use Rattle.standing.specs.Standing.{graph_of, loose_in, board_of, base_of as base_under}
 use Rattle.colouring.specs.Painting.{merged_under, read_at, member_register}
 use Rattle.kept.specs.Kept.{base_of, state_of}
 use Rattle.kept.specs.declared.kept.Kept.{Kept}
@@ -53,8 +53,8 @@ removed_small k i above inside =
 
 -- the registers that were painted are those of the rules
 pub registers_are : (k : Kept) (groups : List ℕ) →
-    ((w : ℕ) → read_at groups w ≡ painted (base-under k.standing) (merged_under k.standing) (own_number (base-under k.standing)) (drop k.top k.removed) w) →
+    ((w : ℕ) → read_at groups w ≡ painted (base_under k.standing) (merged_under k.standing) (own_number (base_under k.standing)) (drop k.top k.removed) w) →
     (v : ℕ) → member_register k.standing (read_at groups) v ≡ register_of (base_of k) (state_of k) v
-unfolding base_of state_of group_register base-under board_of
+unfolding base_of state_of group_register base_under board_of
 registers_are k groups is v =
     ap (λ (registers : ℕ → ℕ). member_register k.standing registers v) (fun_ext is)

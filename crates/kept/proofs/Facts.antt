@@ -6,7 +6,7 @@ use Rattle.std.proofs.lemmas.Bool.Decides.{nat_tests}
 use Rattle.graph.specs.Counting.{count}
 use Rattle.graph.specs.Shape.{Shape, Lawful}
 use Rattle.numbers.specs.Sets.{has}
-use Rattle.board.specs.Boards.{opened_graph, table_of, merged_graph as merged-in}
+use Rattle.board.specs.Boards.{opened_graph, table_of, merged_graph as merged_in}
 use Rattle.board.proofs.Boards.{merged_lawful}
 use Rattle.session_laws.specs.Base.{Base, SoundBase, fixed}
 use Rattle.session_laws.specs.State.{State, Move, listed, standing_graph, move_at, no_move}
@@ -15,8 +15,8 @@ use Rattle.session_laws.proofs.Cores.{far_stands}
 use Rattle.session_laws.proofs.Counts.{but, count_less}
 use Rattle.session_laws.proofs.Room.{removed_and_standing}
 use Rattle.session_laws.proofs.Standing.{standing_lawful}
-use Rattle.standing.specs.Standing.{graph_of, is_left, board_of, base_of as base-under}
-use Rattle.standing.proofs.Shapes.{base_sound as base-sound-under}
+use Rattle.standing.specs.Standing.{graph_of, is_left, board_of, base_of as base_under}
+use Rattle.standing.proofs.Shapes.{base_sound as base_sound_under}
 use Rattle.kept.specs.Moves.{moves_of, move_of}
 use Rattle.kept.specs.Sound.{SoundKept, state_over}
 use Rattle.kept.specs.Kept.{base_of, state_of}
@@ -29,7 +29,7 @@ sound_of k = told_kept _ _ _ _ _ _ k.sound
 
 pub base_sound : (k : Kept) → SoundBase (base_of k)
 unfolding base_of
-base_sound k = base-sound-under k.standing
+base_sound k = base_sound_under k.standing
 
 pub state_sound : (k : Kept) → SoundState (base_of k) (state_of k)
 unfolding base_of state_of
@@ -48,16 +48,16 @@ shape_same n s s' j j' e f = λ i. record { size = n; stands = e i; joined = f i
 
 -- the standing graph in its rows is the one that the rules speak of
 pub graph_is : (k : Kept) → graph_of k.standing ≡ standing_graph (base_of k) (state_of k)
-unfolding graph_of base_of state_of base-under board_of is_left
+unfolding graph_of base_of state_of base_under board_of is_left
 graph_is k =
     let b = k.standing.board in
-    let left : (v : ℕ) → has k.standing.left v ≡ ((merged-in b).stands v && not (listed (drop k.top k.removed) v)) = (sound_of k).left in
+    let left : (v : ℕ) → has k.standing.left v ≡ ((merged_in b).stands v && not (listed (drop k.top k.removed) v)) = (sound_of k).left in
     shape_same _ _ _ _ _
-    (fun_ext (λ v. stands_so ((merged-in b).stands v) (has k.standing.left v) (listed (drop k.top k.removed) v) (left v)))
+    (fun_ext (λ v. stands_so ((merged_in b).stands v) (has k.standing.left v) (listed (drop k.top k.removed) v) (left v)))
     (fun_ext (λ u. fun_ext (λ v.
-    joined_so ((merged-in b).joined u v) ((merged-in b).stands u) ((merged-in b).stands v) (has k.standing.left u) (has k.standing.left v)
+    joined_so ((merged_in b).joined u v) ((merged_in b).stands u) ((merged_in b).stands v) (has k.standing.left u) (has k.standing.left v)
     (listed (drop k.top k.removed) u) (listed (drop k.top k.removed) v) (left u) (left v)
-    (λ j. (merged_lawful b).standing u v j) (λ j. far_stands (merged-in b) (merged_lawful b) u v j))))
+    (λ j. (merged_lawful b).standing u v j) (λ j. far_stands (merged_in b) (merged_lawful b) u v j))))
 
 -- there is room for one more while a vertex stands
 pub some_room : (k : Kept) (v : ℕ) → (standing_graph (base_of k) (state_of k)).stands v ≡ true → 1 ≤ k.top

@@ -1,7 +1,7 @@
 -- A session after a merge. Assumes nothing.
 use Rattle.std.proofs.Common.{◌≡◌, ℕ, ◌<◌, ◌≤◌, min, max, Bool, true, false, not, ◌&&◌, ◌||◌, eqb, List, length, get_or, set, sym, refl, ap, ◌∙◌, subst, ap₂, arith}
 use Rattle.std.proofs.lemmas.Bool.Decides.{nat_tests}
-use Rattle.board.specs.Boards.{table_of, opened_graph, merged_graph as merged-in, TwoGroups}
+use Rattle.board.specs.Boards.{table_of, opened_graph, merged_graph as merged_in, TwoGroups}
 use Rattle.board.specs.declared.board.Board.{Board}
 use Rattle.session_laws.specs.Base.{Base}
 use Rattle.session_laws.specs.State.{State, Move, standing_graph, merged_graph, listed, move_at}
@@ -11,7 +11,7 @@ use Rattle.session_laws.specs.Runs.{left_by, united, closed}
 use Rattle.session_laws.proofs.Pairs.{Groups, groups_of}
 use Rattle.session_laws.proofs.Rows.{stands_now}
 use Rattle.session_laws.proofs.Standing.{Stands, name_from}
-use Rattle.standing.specs.Standing.{board_of, is_left, base_of as base-under}
+use Rattle.standing.specs.Standing.{board_of, is_left, base_of as base_under}
 use Rattle.standing.specs.declared.standing.Standing.{Standing}
 use Rattle.kept.specs.Moves.{moves_of}
 use Rattle.kept.specs.Sound.{SoundKept, state_over}
@@ -52,15 +52,15 @@ module _ (k : Kept) (m u v : ℕ) (granted : GrantedOn (base_of k) (state_of k) 
   groups = groups_of (base_of k) (base_sound k) (state_of k) (state_sound k) m u v granted
 
   pub two_groups : TwoGroups (board_of k.standing) x y
-  unfolding base_of state_of base-under board_of
+  unfolding base_of state_of base_under board_of
   two_groups = record {
     lower = groups.lower;
     low_stands = name_from _ _ x groups.x_stands.name;
     high_stands = name_from _ _ y groups.y_stands.name;
-    apart = not_below ((merged-in k.standing.board).joined x y) _ _ groups.not_joined groups.x_stands.is_kept groups.y_stands.is_kept;
+    apart = not_below ((merged_in k.standing.board).joined x y) _ _ groups.not_joined groups.x_stands.is_kept groups.y_stands.is_kept;
   }
 
-  module _ (standing : Standing) (moves : List Row) (base : base-under standing ≡ base-under k.standing)
+  module _ (standing : Standing) (moves : List Row) (base : base_under standing ≡ base_under k.standing)
       (table : table_of (board_of standing) ≡ united (table_of (board_of k.standing)) y x)
       (left : (w : ℕ) → is_left standing w ≡ (is_left k.standing w && not (eqb w y)))
       (whole : length moves ≡ 128) (rows : moves_of moves k.noted ≡ set (state_of k).moves m (closed (move_at (state_of k) m))) where

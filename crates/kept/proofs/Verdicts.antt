@@ -9,7 +9,7 @@ use Rattle.session_laws.specs.State.{State, standing_graph, has_pending, holds_t
 use Rattle.session_laws.specs.Calls.{Call, Outcome, refused, noted, simplified, frozen, pushed}
 use Rattle.session_laws.specs.Outcomes.{outcome, at_vertex, note_outcome, simplify_outcome, freeze_outcome, push_outcome, low_degree, some_loose}
 use Rattle.session_laws.specs.Runs.{called, left_by}
-use Rattle.standing.specs.Standing.{graph_of, fixed_in, light_at, light_loose, base_of as base-under}
+use Rattle.standing.specs.Standing.{graph_of, fixed_in, light_at, light_loose, base_of as base_under}
 use Rattle.kept.specs.Kept.{base_of, state_of}
 use Rattle.kept.specs.declared.kept.Kept.{Kept}
 use Rattle.kept.proofs.Facts.{graph_is, noted_long}

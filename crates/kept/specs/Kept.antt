@@ -2,13 +2,13 @@
 use Rattle.std.specs.Prelude.{ℕ}
 use Rattle.session_laws.specs.Base.{Base}
 use Rattle.session_laws.specs.State.{State}
-use Rattle.standing.specs.Standing.{base_of as base-under}
+use Rattle.standing.specs.Standing.{base_of as base_under}
 use Rattle.kept.specs.Sound.{state_over}
 use Rattle.kept.specs.declared.kept.Kept.{Kept}
 
 -- what it was opened over
 unfoldable pub base_of : Kept → Base
-base_of k = base-under k.standing
+base_of k = base_under k.standing
 
 -- what the calls have made of it
 unfoldable pub state_of : Kept → State

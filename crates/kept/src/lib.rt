@@ -1,3 +1,5 @@
+#![tactic(auto)]
+
 // The seven calls of a coalescing session over its own graph, each granted and answered by its rule.
 mod kept;
 mod marks;

@@ -1,5 +1,5 @@
 ghost use Rattle.std.specs.Prelude.{◌≡◌};
-ghost use Rattle.session_laws.specs.Runs.{closed as closed-move};
+ghost use Rattle.session_laws.specs.Runs.{closed as closed_move};
 ghost use Rattle.kept.specs.Moves.{move_of};
 
 // A copy in the program: its ends would best share a register. It is pending until it is decided or given up.
@@ -23,7 +23,7 @@ pub enum Merge {
 
 impl Move {
     pub(crate) fn closed(self) -> Move
-        ensures { move_of result ≡ closed-move (move_of self) }
+        ensures { move_of result ≡ closed_move (move_of self) }
     {
         Move {
             one: self.one,

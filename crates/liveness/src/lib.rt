@@ -1,3 +1,5 @@
+#![tactic(auto)]
+
 // Which numbers are live where in a piece of code, by paths.
 mod flow;
 mod liveness;

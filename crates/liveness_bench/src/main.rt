@@ -1,3 +1,5 @@
+#![tactic(auto)]
+
 // Times how live numbers are found; without an argument it does nothing.
 use code::{Code, Row};
 use liveness::Liveness;

@@ -1,3 +1,5 @@
+#![tactic(auto)]
+
 // Small code, and what is live where in it.
 #[cfg(test)]
 mod tests;

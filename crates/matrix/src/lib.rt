@@ -1,3 +1,5 @@
+#![tactic(auto)]
+
 // A store of pairs: a triangular matrix of bits over bytes that are lent to it.
 pub mod bit_matrix;
 pub mod bits;

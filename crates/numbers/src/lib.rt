@@ -1,3 +1,5 @@
+#![tactic(auto)]
+
 // Sets of numbers below 512, as eight 64-bit words.
 mod iterating;
 mod members;

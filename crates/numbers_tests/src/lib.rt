@@ -1,3 +1,5 @@
+#![tactic(auto)]
+
 // Sets of numbers on small tables.
 #[cfg(test)]
 mod tests {

@@ -1,6 +1,6 @@
 // All four views at once, over any graph.
 ghost use Rattle.std.specs.Prelude.{◌≡◌};
-ghost use Rattle.graph.specs.Shape.{degree as degree-of, next as next_of};
+ghost use Rattle.graph.specs.Shape.{degree as degree_of, next as next_of};
 ghost use Rattle.graph.specs.Joining.{judge_of, join_answer, join_meaning};
 ghost use Rattle.graph.specs.Views.{over, HandedDown};
 ghost use Rattle.piles.specs.Piles.{pile_of, looks_of, graph_of};
@@ -52,14 +52,14 @@ fn unpiled<G>(pile: Pile<G>) -> G
 
 // Asks the pile about u and v, joins them in it, and hands the graph back.
 pub fn ask_and_join<G: Graph>(graph: G, looks: Looks, u: usize, v: usize) -> (G, Asked)
-    ensures size { result.1.size ≡ (pile_of looks (means graph).shape).size }
-    ensures stands { result.1.u_stands ≡ (pile_of looks (means graph).shape).stands u }
-    ensures joined { result.1.joined ≡ (pile_of looks (means graph).shape).joined u v }
-    ensures degree { result.1.u_degree ≡ degree-of (pile_of looks (means graph).shape) u }
-    ensures next { result.1.next ≡ next_of (pile_of looks (means graph).shape) u v }
-    ensures join { result.1.join ≡ join_answer (over (pile_of looks) (means graph)) u v }
-    ensures seen { over (pile_of looks) (means result.0) ≡ join_meaning (over (pile_of looks) (means graph)) u v }
-    ensures below { HandedDown (judge_of (pile_of looks (means graph).shape) u v) (result.0 ≡ graph) (means result.0 ≡ join_meaning (means graph) u v) }
+    ensures size { result.1.size ≡ (pile_of looks (G.means graph).shape).size }
+    ensures stands { result.1.u_stands ≡ (pile_of looks (G.means graph).shape).stands u }
+    ensures joined { result.1.joined ≡ (pile_of looks (G.means graph).shape).joined u v }
+    ensures degree { result.1.u_degree ≡ degree_of (pile_of looks (G.means graph).shape) u }
+    ensures next { result.1.next ≡ next_of (pile_of looks (G.means graph).shape) u v }
+    ensures join { result.1.join ≡ join_answer (over (pile_of looks) (G.means graph)) u v }
+    ensures seen { over (pile_of looks) (G.means result.0) ≡ join_meaning (over (pile_of looks) (G.means graph)) u v }
+    ensures below { HandedDown (judge_of (pile_of looks (G.means graph).shape) u v) (result.0 ≡ graph) (G.means result.0 ≡ join_meaning (G.means graph) u v) }
 {
     let mut pile = piled(graph, looks);
     let size = pile.size();

@@ -1,3 +1,5 @@
+#![tactic(auto)]
+
 // Reading any graph into rows, so that a session asks it only once.
 ghost use Rattle.std.specs.Prelude.{◌≡◌, ℕ, ◌<◌, length};
 ghost use Rattle.numbers.specs.Sets.{has};
@@ -9,7 +11,7 @@ use graph::Graph;
 use numbers::NumberSet;
 
 fn vertices_of<H: Graph>(graph: &H) -> NumberSet
-    ensures { (v : ℕ) → has result v ≡ (means graph.now).shape.stands v }
+    ensures { (v : ℕ) → has result v ≡ (H.means graph.now).shape.stands v }
 {
     let n = graph.size();
     let mut vertices = NumberSet::new();
@@ -22,7 +24,7 @@ fn vertices_of<H: Graph>(graph: &H) -> NumberSet
 }
 
 fn row_of<H: Graph>(graph: &H, u: usize) -> NumberSet
-    ensures { (v : ℕ) → has result v ≡ (means graph.now).shape.joined u v }
+    ensures { (v : ℕ) → has result v ≡ (H.means graph.now).shape.joined u v }
 {
     let n = graph.size();
     let mut row = NumberSet::new();
@@ -36,9 +38,9 @@ fn row_of<H: Graph>(graph: &H, u: usize) -> NumberSet
 
 // Only vertices are asked for their neighbours.
 fn rows_of<H: Graph>(graph: &H, vertices: &NumberSet) -> [NumberSet; 512]
-    requires { (v : ℕ) → has vertices.now v ≡ (means graph.now).shape.stands v }
+    requires { (v : ℕ) → has vertices.now v ≡ (H.means graph.now).shape.stands v }
     ensures whole { length result ≡ 512 }
-    ensures each { (u v : ℕ) → row_has result u v ≡ (means graph.now).shape.joined u v }
+    ensures each { (u v : ℕ) → row_has result u v ≡ (H.means graph.now).shape.joined u v }
 {
     let mut rows = [NumberSet::new(); 512];
     for u in 0..512 {
@@ -51,7 +53,7 @@ fn rows_of<H: Graph>(graph: &H, vertices: &NumberSet) -> [NumberSet; 512]
 
 // A board of the graph, nothing merged.
 pub fn board_of<H: Graph>(graph: &H) -> Board
-    ensures graph { opened_graph result ≡ (means graph.now).shape }
+    ensures graph { opened_graph result ≡ (H.means graph.now).shape }
     ensures table { table_of result ≡ (λ v. v) }
 {
     let vertices = vertices_of(graph);

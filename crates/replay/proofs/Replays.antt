@@ -3,7 +3,7 @@ use Rattle.std.proofs.Common.{◌≡◌, ℕ, ◌+◌, ◌<◌, ◌≤◌, List,
 use Rattle.std.proofs.lemmas.List.{map_more, map_push, take_more_set, drop-set-lt, drop-set, drop_more, take_all, length-set}
 use Rattle.session_laws.specs.Base.{Base}
 use Rattle.session_laws.specs.State.{State, opened}
-use Rattle.session_laws.specs.Calls.{Outcome, Call as Rule-call}
+use Rattle.session_laws.specs.Calls.{Outcome, Call as RuleCall}
 use Rattle.session_laws.specs.Outcomes.{outcome}
 use Rattle.session_laws.specs.Runs.{called, after, outcomes}
 use Rattle.session_laws.proofs.Runs.{after_more, outcomes_more}

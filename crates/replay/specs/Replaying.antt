@@ -4,7 +4,7 @@ use Rattle.kept.specs.Answers.{number_of}
 use Rattle.kept.specs.declared.refusal.Refusal.{Refusal}
 use Rattle.session_laws.specs.Base.{Opening}
 use Rattle.session_laws.specs.Calls.{Outcome, note, mark, simplify, freeze, push, merge, colour, refused, noted, marked, simplified, frozen, pushed, together, apart, merged, coloured}
-use Rattle.session_laws.specs.Calls.{Call as Rule-call}
+use Rattle.session_laws.specs.Calls.{Call as RuleCall}
 use Rattle.session_laws.specs.Laws.{answers}
 use Rattle.replay.specs.declared.calls.Call.{Call}
 use Rattle.replay.specs.declared.calls.Call.TheVariants.{Note, Mark, Simplify, Freeze, Push, Merge, Colour}
@@ -12,7 +12,7 @@ use Rattle.replay.specs.declared.calls.Answer.{Answer}
 use Rattle.replay.specs.declared.calls.Answer.TheVariants.{Refused, Noted, Granted, Together, Apart, Merged}
 
 -- a row of marks and a table of registers are lent in the length that suffices
-abbrev pub call_of : Call → Rule-call
+abbrev pub call_of : Call → RuleCall
 call_of (Note u v) = note u v
 call_of (Mark v) = mark v
 call_of (Simplify v) = simplify v

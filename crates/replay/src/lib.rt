@@ -1,3 +1,5 @@
+#![tactic(auto)]
+
 // Whole runs of calls over a graph.
 mod calls;
 mod running;

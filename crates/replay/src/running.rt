@@ -24,8 +24,8 @@ pub fn replay<G: Graph>(
     answers: &mut [Answer],
 ) -> Replayed<G>
     ensures graph { result.graph ≡ graph }
-    ensures answers { AnsweredAll (opening_over (means graph).shape bank classes.now) calls.now answers.old answers.new result.answer }
-    ensures laws { RunKeeps (opening_over (means graph).shape bank classes.now) (map call_of calls.now) }
+    ensures answers { AnsweredAll (opening_over (G.means graph).shape bank classes.now) calls.now answers.old answers.new result.answer }
+    ensures laws { RunKeeps (opening_over (G.means graph).shape bank classes.now) (map call_of calls.now) }
 {
     let many = calls.len();
     if answers.len() < many {

@@ -1,3 +1,5 @@
+#![tactic(auto)]
+
 // Coalescing sessions over any graph: a session merges and removes vertices until the rest can be given registers.
 mod bank;
 mod session;

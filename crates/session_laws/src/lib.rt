@@ -1,3 +1,5 @@
+#![tactic(auto)]
+
 // The theory of coalescing sessions. There is nothing to run: each function's contract is a theorem, so that none goes unproved.
 ghost use Rattle.session_laws.specs.Merging.{BriggsKeeps, GeorgeKeeps, GeorgeKeepsTurned, EmptiesDecides};
 ghost use Rattle.session_laws.specs.Laws.{Always, StaysEmptiable, ColoursSoundly, NamesLowest, NeverPushes, ColoursAll, ColoursUnpushed, BoundedSteps, RunKeeps};

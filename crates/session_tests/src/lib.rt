@@ -1,3 +1,5 @@
+#![tactic(auto)]
+
 // Short sessions over a real store, with their answers worked out by hand from the rules.
 use graph::Graph;
 use graph::class::Class;

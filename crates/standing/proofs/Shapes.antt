@@ -6,7 +6,7 @@ use Rattle.graph.specs.Shape.{Shape, Lawful}
 use Rattle.graph.proofs.Keeping.{keeping_view}
 use Rattle.graph.proofs.Merging.{same_test}
 use Rattle.numbers.specs.Sets.{has}
-use Rattle.numbers.specs.Counting.{count as set-count}
+use Rattle.numbers.specs.Counting.{count as set_count}
 use Rattle.board.specs.Boards.{merged_graph}
 use Rattle.board.proofs.Boards.{merged_lawful}
 use Rattle.board.proofs.Bridging.{set_size}
@@ -46,6 +46,6 @@ none_joined g l u v h = elim (cases_Bool (g.joined u v)) [
 
 -- how many are in a set that is part of a row
 pub row_size : (s : Standing) (u : ℕ) (p q : ℕ → Bool) → ((v : ℕ) → p v ≡ ((graph_of s).joined u v && q v)) →
-    set-count p 512 ≡ count (λ v. (graph_of s).joined u v && q v) (graph_of s).size
+    set_count p 512 ≡ count (λ v. (graph_of s).joined u v && q v) (graph_of s).size
 row_size s u p q same = set_size p (λ v. (graph_of s).joined u v && q v) (graph_of s).size (graph_lawful s).most same
     (λ v h. let e : (graph_of s).joined u v ≡ false = none_joined (graph_of s) (graph_lawful s) u v h in rw e)

@@ -1,3 +1,5 @@
+#![tactic(auto)]
+
 // The standing graph of a session: what the calls speak of, and the tests that they are granted on.
 mod standing;
 

@@ -50,9 +50,9 @@ impl<G: Graph> Graph for Lent<'_, G> {
     }
 
     fn join(&mut self, u: usize, v: usize) -> Result<(), Refusal>
-        ensures answer { result ≡ join_answer (means self.old.to.now) u v }
-        ensures after { means self.new.to.now ≡ join_meaning (means self.old.to.now) u v }
-        ensures left { (self.new.to.ghost_name ≡ self.old.to.ghost_name) × leaves self.old.to.now u v self.new.to.now }
+        ensures answer { result ≡ join_answer (G.means self.old.to.now) u v }
+        ensures after { G.means self.new.to.now ≡ join_meaning (G.means self.old.to.now) u v }
+        ensures left { (self.new.to.ghost_name ≡ self.old.to.ghost_name) × G.leaves self.old.to.now u v self.new.to.now }
         ensures same { self.new.to.ghost_name ≡ self.old.to.ghost_name }
     {
         self.to.join(u, v)
@@ -61,8 +61,8 @@ impl<G: Graph> Graph for Lent<'_, G> {
 
 // Joins u and v in a graph that is lent: the graph itself has changed afterwards.
 pub fn join_lent<G: Graph>(graph: &mut G, u: usize, v: usize) -> Result<(), Refusal>
-    ensures answer { result ≡ join_answer (means graph.old) u v }
-    ensures after { means graph.new ≡ join_meaning (means graph.old) u v }
+    ensures answer { result ≡ join_answer (G.means graph.old) u v }
+    ensures after { G.means graph.new ≡ join_meaning (G.means graph.old) u v }
 {
     let mut lent = Lent::new(graph);
     lent.join(u, v)

@@ -47,7 +47,7 @@ impl<G> MergedView<G> {
 impl<G: Graph> MergedView<G> {
     // Whether some member of u is joined below to some member of v.
     fn groups_joined(&self, u: usize, v: usize) -> bool
-        ensures { result ≡ groups_joined (group_at self.now.table.to) (means self.now.below).shape u v }
+        ensures { result ≡ groups_joined (group_at self.now.table.to) (G.means self.now.below).shape u v }
     {
         let n = self.below.size();
         let mut found = false;

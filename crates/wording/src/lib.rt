@@ -1,3 +1,5 @@
+#![tactic(auto)]
+
 mod details;
 mod route;
 mod spot;

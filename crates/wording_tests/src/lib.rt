@@ -1,3 +1,5 @@
+#![tactic(auto)]
+
 // What is said of damaged formulas, word by word.
 use formula::read_formula;
 use std::alloc::{AllocError, Global};

@@ -3,7 +3,7 @@ ghost use Rattle.std.specs.Prelude.{◌≡◌, ℕ, ◌<◌, not, ◌&&◌, if�
 ghost use Rattle.session_laws.specs.Calls.{refused, Outcome};
 ghost use Rattle.session_laws.specs.Base.{fixed};
 ghost use Rattle.session_laws.specs.Outcomes.{at_vertex, low_degree, some_loose};
-ghost use Rattle.session_laws.specs.State.{has_pending, holds_temporary, move_at, waits as waits-for, Emptiable};
+ghost use Rattle.session_laws.specs.State.{has_pending, holds_temporary, move_at, waits as waits_for, Emptiable};
 ghost use Rattle.kept.specs.Answers.{answer};
 ghost use Rattle.kept.specs.Kept.{base_of, state_of, noted_in};
 
@@ -77,7 +77,7 @@ impl Kept {
     // Whether the move m is pending and has an end in the group v.
     pub(crate) fn waits(&self, m: usize, v: usize) -> bool
         requires { m < noted_in self.now }
-        ensures { result ≡ waits-for (state_of self.now).table v (move_at (state_of self.now) m) }
+        ensures { result ≡ waits_for (state_of self.now).table v (move_at (state_of self.now) m) }
     {
         let waiting = self.moves[m];
         let ends = (self.standing.group(waiting.one) == v)

@@ -1,6 +1,6 @@
 // Giving out the registers at the end.
 ghost use Rattle.std.specs.Prelude.{◌≡◌, ◌≤◌, length};
-ghost use Rattle.session_laws.specs.Calls.{colour as colouring-call};
+ghost use Rattle.session_laws.specs.Calls.{colour as colouring_call};
 ghost use Rattle.session_laws.specs.Colouring.{register_of};
 ghost use Rattle.session_laws.specs.Outcomes.{outcome};
 ghost use Rattle.session_laws.specs.Runs.{called};
@@ -14,8 +14,8 @@ use colouring::{fill, paint};
 impl Kept {
     // Writes the register of each vertex into the first 512 bytes of a table: 255 for none.
     pub fn colour(&self, table: &mut [u8]) -> Result<(), Refusal>
-        ensures answer { colour_answer (register_of (base_of self.now) (state_of self.now)) result ≡ outcome (base_of self.now) (state_of self.now) (colouring-call (length table.old)) }
-        ensures state { state_of self.now ≡ called (base_of self.now) (state_of self.now) (colouring-call (length table.old)) }
+        ensures answer { colour_answer (register_of (base_of self.now) (state_of self.now)) result ≡ outcome (base_of self.now) (state_of self.now) (colouring_call (length table.old)) }
+        ensures state { state_of self.now ≡ called (base_of self.now) (state_of self.now) (colouring_call (length table.old)) }
         ensures table { Filled (register_of (base_of self.now) (state_of self.now)) table.old table.new result }
     {
         if table.len() < 512 {

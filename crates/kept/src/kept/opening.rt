@@ -1,7 +1,7 @@
 ghost use Rattle.std.specs.Prelude.{◌≡◌};
 ghost use Rattle.session_laws.specs.State.{opened};
 ghost use Rattle.board.specs.Boards.{opened_graph, table_of};
-ghost use Rattle.standing.specs.Standing.{base_of as base-under, board_of, is_left};
+ghost use Rattle.standing.specs.Standing.{base_of as base_under, board_of, is_left};
 ghost use Rattle.kept.specs.Kept.{base_of, state_of};
 ghost use Rattle.kept.specs.Sound.{Fresh};
 
@@ -14,7 +14,7 @@ impl Kept {
     // A session in which nothing has been called yet.
     pub fn new(standing: Standing) -> Kept
         requires { Fresh standing }
-        ensures base { base_of result ≡ base-under standing }
+        ensures base { base_of result ≡ base_under standing }
         ensures state { state_of result ≡ opened }
     {
         let none = Move {

@@ -1,6 +1,6 @@
 // What the views over the given graph go by.
 ghost use Rattle.std.specs.Prelude.{◌≡◌, ℕ};
-ghost use Rattle.session_laws.specs.Bank.{is_register, classes_under as under-bank};
+ghost use Rattle.session_laws.specs.Bank.{is_register, classes_under as under_bank};
 ghost use Rattle.views.specs.Tables.{flag, class_at};
 ghost use Rattle.session.specs.Banks.{bank_of};
 
@@ -28,7 +28,7 @@ impl Bank {
 
     // The class of v: below 32 only the bank's registers have one.
     fn class_at(self, given: Option<Class>, v: usize) -> Option<Class>
-        ensures { result ≡ under-bank (bank_of self) (λ _. given) v }
+        ensures { result ≡ under_bank (bank_of self) (λ _. given) v }
     {
         if v >= 32 {
             return given;
@@ -41,7 +41,7 @@ impl Bank {
     }
 
     pub(crate) fn classes_under(self, classes: &[Option<Class>; 512]) -> [Option<Class>; 512]
-        ensures { (v : ℕ) → class_at result v ≡ under-bank (bank_of self) (class_at classes.now) v }
+        ensures { (v : ℕ) → class_at result v ≡ under_bank (bank_of self) (class_at classes.now) v }
     {
         let mut under = *classes;
         for v in 0..512 {

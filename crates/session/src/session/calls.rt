@@ -1,6 +1,6 @@
 // The seven calls, each with what it keeps of the laws.
 ghost use Rattle.std.specs.Prelude.{◌≡◌, length, replicate, if◌then◌else◌, Decides, nat_lt};
-ghost use Rattle.session_laws.specs.Calls.{note as noting, mark as marking, simplify as simplifying, freeze as freezing, push as pushing, merge as merging, colour as colouring-call, marked, simplified, frozen, pushed};
+ghost use Rattle.session_laws.specs.Calls.{note as noting, mark as marking, simplify as simplifying, freeze as freezing, push as pushing, merge as merging, colour as colouring_call, marked, simplified, frozen, pushed};
 ghost use Rattle.session_laws.specs.Colouring.{register_of};
 ghost use Rattle.session_laws.specs.Outcomes.{outcome};
 ghost use Rattle.session_laws.specs.Runs.{called};
@@ -82,9 +82,9 @@ impl<G> Session<G> {
 
     // Writes the register of each vertex into the first 512 bytes of a table: 255 for none.
     pub fn colour(&self, table: &mut [u8]) -> Result<(), Refusal>
-        ensures answer { colour_answer (register_of (base_of self.now.kept) (state_of self.now.kept)) result ≡ outcome (base_of self.now.kept) (state_of self.now.kept) (colouring-call (length table.old)) }
-        ensures state { state_of self.now.kept ≡ called (base_of self.now.kept) (state_of self.now.kept) (colouring-call (length table.old)) }
-        ensures law { KeptByCall (base_of self.now.kept) (state_of self.now.kept) (colouring-call (length table.old)) }
+        ensures answer { colour_answer (register_of (base_of self.now.kept) (state_of self.now.kept)) result ≡ outcome (base_of self.now.kept) (state_of self.now.kept) (colouring_call (length table.old)) }
+        ensures state { state_of self.now.kept ≡ called (base_of self.now.kept) (state_of self.now.kept) (colouring_call (length table.old)) }
+        ensures law { KeptByCall (base_of self.now.kept) (state_of self.now.kept) (colouring_call (length table.old)) }
         ensures table { Filled (register_of (base_of self.now.kept) (state_of self.now.kept)) table.old table.new result }
     {
         self.kept.colour(table)

@@ -1,6 +1,6 @@
 ghost use Rattle.std.specs.Prelude.{◌≡◌};
 ghost use Rattle.kept.specs.Kept.{base_of, state_of};
-ghost use Rattle.session_laws.specs.Base.{base_of as base-under};
+ghost use Rattle.session_laws.specs.Base.{base_of as base_under};
 ghost use Rattle.session_laws.specs.State.{opened};
 ghost use Rattle.session.specs.Banks.{opening_over};
 
@@ -16,7 +16,7 @@ use views::clique::CliqueView;
 impl<G: Graph> Session<G> {
     // Opens a session over a graph: its vertices are those of the bank's class.
     pub fn open(graph: G, bank: Bank, classes: &[Option<Class>; 512]) -> Session<G>
-        ensures base { base_of result.kept ≡ base-under (opening_over (means graph).shape bank classes.now) }
+        ensures base { base_of result.kept ≡ base_under (opening_over (G.means graph).shape bank classes.now) }
         ensures state { state_of result.kept ≡ opened }
         ensures graph { result.graph ≡ graph }
     {

@@ -1,7 +1,7 @@
 // What can be asked of the standing graph.
 ghost use Rattle.std.specs.Prelude.{◌≡◌, ℕ};
 ghost use Rattle.graph.specs.Counting.{any};
-ghost use Rattle.graph.specs.Shape.{degree as degree-of};
+ghost use Rattle.graph.specs.Shape.{degree as degree_of};
 ghost use Rattle.numbers.specs.Sets.{has};
 ghost use Rattle.board.specs.Boards.{table_of};
 ghost use Rattle.session_laws.specs.Tests.{significant};
@@ -75,7 +75,7 @@ impl Standing {
     }
 
     pub fn degree(&self, u: usize) -> usize
-        ensures { result ≡ degree-of (graph_of self.now) u }
+        ensures { result ≡ degree_of (graph_of self.now) u }
     {
         self.row(u).len()
     }

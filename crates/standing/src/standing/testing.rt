@@ -1,7 +1,7 @@
 // The tests for merging two vertices.
 ghost use Rattle.std.specs.Prelude.{◌≡◌, ℕ, ◌≤◌, not, ◌&&◌, ◌||◌, length, replicate};
 ghost use Rattle.graph.specs.Counting.{count};
-ghost use Rattle.session_laws.specs.Tests.{briggs as briggs-test, george as george-test, may_merge};
+ghost use Rattle.session_laws.specs.Tests.{briggs as briggs_test, george as george_test, may_merge};
 ghost use Rattle.standing.specs.Standing.{graph_of, fixed_in, registers_of, weighty, marked};
 ghost use Rattle.numbers.specs.Sets.{has};
 
@@ -38,7 +38,7 @@ impl Standing {
     // Briggs's test: u and v have together fewer different significant neighbours than there are registers.
     pub fn briggs(&self, u: usize, v: usize, marks: &mut [u8]) -> bool
         requires { (512 ≤ length marks.old) × (marks.old ≡ replicate (length marks.old) 0) }
-        ensures { result ≡ briggs-test (fixed_in self.now) (registers_of self.now) (graph_of self.now) u v }
+        ensures { result ≡ briggs_test (fixed_in self.now) (registers_of self.now) (graph_of self.now) u v }
     {
         let near = self.count_new(u, marks);
         let more = self.count_new(v, marks);
@@ -47,7 +47,7 @@ impl Standing {
 
     // George's test: every significant neighbour of v is joined to u.
     pub fn george(&self, u: usize, v: usize) -> bool
-        ensures { result ≡ george-test (fixed_in self.now) (registers_of self.now) (graph_of self.now) u v }
+        ensures { result ≡ george_test (fixed_in self.now) (registers_of self.now) (graph_of self.now) u v }
     {
         let row = self.row(v).difference(&self.row(u));
         let n = self.size();

@@ -10,7 +10,7 @@ returns-then-there-word c =
     let p : ℕ → Bool = stops words c.args.word in
     let all : length words - 0 ≡ length words = omega arith in
     let stop : p c.loop-steps.steps ≡ true =
-    ap (λ (i : ℕ). eqb (get_or words i 0) c.args.word || eqb (get_or words i 0) 0) (sym c.place-of.ensures.place) ∙ c.if-there-word.true in
+    ap (λ (i : ℕ). eqb (get_or words i 0) c.args.word || eqb (get_or words i 0) 0) (sym c.place_of.ensures.place) ∙ c.if-there-word.true in
     sym (sym (ap (first p 0) all) ∙ (c.loop-steps.invariant ∙ first_here p c.loop-steps.steps (length words) c.loop-steps-test.true stop))
 
 pub loop-steps-preserved : goal.loop-steps-preserved
@@ -18,5 +18,5 @@ loop-steps-preserved c =
     let words = c.args.words.now in
     let p : ℕ → Bool = stops words c.args.word in
     let on : p c.loop-steps.steps ≡ false =
-    ap (λ (i : ℕ). eqb (get_or words i 0) c.args.word || eqb (get_or words i 0) 0) (sym c.place-of.ensures.place) ∙ c.if-there-word.false in
+    ap (λ (i : ℕ). eqb (get_or words i 0) c.args.word || eqb (get_or words i 0) 0) (sym c.place_of.ensures.place) ∙ c.if-there-word.false in
     c.loop-steps.invariant ∙ first_later p c.loop-steps.steps (length words) c.loop-steps-test.true on

@@ -3,8 +3,8 @@ use Rattle.graph.proofs.Counting.{count_le, count_passed, count_failed}
 use Rattle.graph.proofs.Graph.degree.Goals as goal
 use Rattle.graph.proofs.Graph.degree.Goals.{then-joined, else-joined}
 
-pub overflow-add-found : goal.overflow-add-found
-overflow-add-found g c =
+pub overflow_add-found : goal.overflow_add-found
+overflow_add-found g c =
     omega (arith, count_le ((g.Self.Graph.means c.args.self.now).shape.joined c.args.u) c.loop-v.v)
 
 pub loop-v-preserved : goal.loop-v-preserved

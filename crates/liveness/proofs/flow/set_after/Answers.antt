@@ -6,7 +6,7 @@ use Rattle.liveness.proofs.flow.set_after.Goals as goal
 
 pub returns-in-Some : goal.returns-in-Some
 returns-in-Some c = λ v.
-    c.after-row.ensures v
+    c.after_row.ensures v
     ∙ sym (ahead_at (rows_of c.args.code.now) c.args.place (fields c.in-Some.row) (sym c.in-Some.ensures.value) _)
 
 pub returns-in-None : goal.returns-in-None

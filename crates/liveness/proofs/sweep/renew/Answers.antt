@@ -16,8 +16,8 @@ returns-then-not-absorb c =
     record {
       sound = c.requires.sound;
       still = λ _. refl;
-      closed = λ _. closed_still (rows_of c.args.code.now) c.args.before.now c.args.place old c.set-before-fresh.result c.absorb.new.self
-          at c.set-before-fresh.ensures c.absorb.ensures.after (c.absorb.ensures.same c.if-not-absorb.true);
+      closed = λ _. closed_still (rows_of c.args.code.now) c.args.before.now c.args.place old c.set_before-fresh.result c.absorb.new.self
+          at c.set_before-fresh.ensures c.absorb.ensures.after (c.absorb.ensures.same c.if-not-absorb.true);
       grew = λ e. absurd (false≢true e);
     }
 
@@ -28,10 +28,10 @@ returns c =
     let at : (v : ℕ) → has old v ≡ in_set c.args.before.now c.args.place v =
     λ v. ap (λ x. has x v) c.index-before-place.is ∙ sym (in_set_at c.args.before.now c.args.place v old inside) in
     record {
-      sound = sound_taken (rows_of c.args.code.now) c.args.before.now c.args.place old c.set-before-fresh.result c.absorb.new.self
-          at c.set-before-fresh.ensures c.absorb.ensures.after inside c.requires.sound;
+      sound = sound_taken (rows_of c.args.code.now) c.args.before.now c.args.place old c.set_before-fresh.result c.absorb.new.self
+          at c.set_before-fresh.ensures c.absorb.ensures.after inside c.requires.sound;
       still = λ e. absurd (true≢false e);
       closed = λ e. absurd (true≢false e);
-      grew = λ _. lacking_taken (rows_of c.args.code.now) c.args.before.now c.args.place old c.set-before-fresh.result c.absorb.new.self
-          at c.set-before-fresh.ensures c.absorb.ensures.after inside (c.absorb.ensures.grew c.if-not-absorb.false);
+      grew = λ _. lacking_taken (rows_of c.args.code.now) c.args.before.now c.args.place old c.set_before-fresh.result c.absorb.new.self
+          at c.set_before-fresh.ensures c.absorb.ensures.after inside (c.absorb.ensures.grew c.if-not-absorb.false);
     }

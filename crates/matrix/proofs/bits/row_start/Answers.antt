@@ -3,8 +3,8 @@ use Rattle.matrix.specs.Layout.{triangle}
 use Rattle.matrix.proofs.Triangle.{square_ge, triangle_most}
 use Rattle.matrix.proofs.bits.row_start.Goals as goal
 
-pub overflow-sub-result : goal.overflow-sub-result
-overflow-sub-result c = square_ge c.args.u
+pub overflow_sub-result : goal.overflow_sub-result
+overflow_sub-result c = square_ge c.args.u
 
 pub returns : goal.returns
 unfolding triangle

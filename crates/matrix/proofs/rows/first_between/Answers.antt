@@ -12,12 +12,12 @@ loop-at-preserved-then-at-bits c =
     c.loop-at.invariant ∙ first_byte c.args.bits.now at c.args.to (eqb-true (at % 8) 0 both.0)
     (eqb-true (get_or c.args.bits.now (at / 8) 0) 0 both.1)
 
-pub returns-then-has-bit : goal.returns-then-has-bit
-returns-then-has-bit c =
+pub returns-then-has_bit : goal.returns-then-has_bit
+returns-then-has_bit c =
     sym (c.loop-at.invariant ∙ first_here (bit_at c.args.bits.now) c.loop-at.at c.args.to c.loop-at-test.true
-    (sym c.if-has-bit.ensures))
+    (sym c.if-has_bit.ensures))
 
 pub loop-at-preserved : goal.loop-at-preserved
 loop-at-preserved c =
     c.loop-at.invariant ∙ first_later (bit_at c.args.bits.now) c.loop-at.at c.args.to c.loop-at-test.true
-    (sym c.if-has-bit.ensures)
+    (sym c.if-has_bit.ensures)

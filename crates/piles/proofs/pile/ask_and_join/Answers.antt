@@ -22,9 +22,9 @@ returns g c =
     let kept = pile_kept means leaves u v p q g.G.Graph.lawful c.join-join.ensures.left in
     record {
       size = c.size-size.ensures ∙ ap (λ (m : Meaning). m.shape.size) seen;
-      stands = c.stands-u-stands.ensures ∙ ap (λ (m : Meaning). m.shape.stands u) seen;
+      stands = c.stands-u_stands.ensures ∙ ap (λ (m : Meaning). m.shape.stands u) seen;
       joined = c.joined-joined.ensures ∙ ap (λ (m : Meaning). m.shape.joined u v) seen;
-      degree = c.degree-u-degree.ensures ∙ ap (λ (m : Meaning). degree m.shape u) seen;
+      degree = c.degree-u_degree.ensures ∙ ap (λ (m : Meaning). degree m.shape u) seen;
       next = c.next-next.ensures ∙ ap (λ (m : Meaning). next m.shape u v) seen;
       join = c.join-join.ensures.answer ∙ ap (λ (m : Meaning). join_answer m u v) seen;
       seen = sym (pile_means means leaves u v q c.args.looks c.unpiled.result (kept.0 ∙ el) (sym eb))

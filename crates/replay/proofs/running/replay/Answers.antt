@@ -3,8 +3,8 @@ use Rattle.std.proofs.lemmas.List.{take_all}
 use Rattle.kept.specs.Kept.{base_of, state_of}
 use Rattle.session.specs.Banks.{opening_over}
 use Rattle.session.proofs.Tables.{registers_few}
-use Rattle.session_laws.specs.Base.{Base, base_of as base-under}
-use Rattle.session_laws.specs.Calls.{Call as Rule-call}
+use Rattle.session_laws.specs.Base.{Base, base_of as base_under}
+use Rattle.session_laws.specs.Calls.{Call as RuleCall}
 use Rattle.session_laws.specs.Outcomes.{outcome}
 use Rattle.session_laws.specs.Runs.{called, outcomes}
 use Rattle.session_laws.specs.State.{opened}

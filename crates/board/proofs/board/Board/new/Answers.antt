@@ -5,17 +5,16 @@ use Rattle.board.specs.Boards.{opened_graph, table_of}
 use Rattle.board.proofs.Merging.{merged_none}
 use Rattle.board.proofs.board.Board.new.Goals as goal
 
-pub invariant-of-result : goal.invariant-of-result
-invariant-of-result c =
-    let g = snapshot c.args.size c.args.vertices c.args.given in (
-      ∣ record {
+pub invariant_of-result : goal.invariant_of-result
+invariant_of-result c =
+    let g = snapshot c.args.size c.args.vertices c.args.given in record {
+      sound = ∣ record {
         whole_given = c.requires.0;
         whole_rows = c.requires.0;
         lawful = c.requires.1;
         up_to_date = λ u v. merged_none g c.requires.1 u v ∙ sym (ap (λ (t : ℕ → ℕ). (merged_view t g).joined u v) c.new-table.ensures);
-      } ∣₁,
-      tt,
-    )
+      } ∣₁;
+    }
 
 pub returns : goal.returns
 unfolding opened_graph table_of

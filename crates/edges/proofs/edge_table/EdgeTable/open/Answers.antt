@@ -6,21 +6,18 @@ use Rattle.edges.proofs.Finding.{Gapless}
 use Rattle.edges.proofs.Joining.{empty_gapless, empty_pairs, empty_filled, empty_meaning, granted_fit}
 use Rattle.edges.proofs.edge_table.EdgeTable.open.Goals as goal
 
-pub invariant-of-result : goal.invariant-of-result
-invariant-of-result c =
+pub invariant_of-result : goal.invariant_of-result
+invariant_of-result c =
     let slots : ℕ = length c.args.memory.now in
     let now : c.clear.new.words ≡ replicate slots 0 = c.clear.ensures in
     let fit = granted_fit c.args.n slots c.requires in
-    let long : length c.clear.new.words ≡ slots = ap length now ∙ length-replicate slots 0 in (
-      (fit.0, fit.1, omega (arith, fit.2)),
-      (
-        empty_pairs c.args.n slots ∙ sym (ap (pairs_in c.args.n) now),
-        (
-          empty_filled slots ∙ sym (ap filled now),
-          (subst Gapless (sym now) (empty_gapless slots), tt),
-        ),
-      ),
-    )
+    let long : length c.clear.new.words ≡ slots = ap length now ∙ length-replicate slots 0 in
+    record {
+      size = (fit.0, fit.1, omega (arith, fit.2));
+      pairs = empty_pairs c.args.n slots ∙ sym (ap (pairs_in c.args.n) now);
+      slots = empty_filled slots ∙ sym (ap filled now);
+      gapless = subst Gapless (sym now) (empty_gapless slots);
+    }
 
 pub returns : goal.returns
 returns c =

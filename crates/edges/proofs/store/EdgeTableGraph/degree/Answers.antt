@@ -4,8 +4,8 @@ use Rattle.edges.specs.Table.{table_shape}
 use Rattle.edges.proofs.store.EdgeTableGraph.degree.Goals as goal
 use Rattle.edges.proofs.store.EdgeTableGraph.degree.Goals.{then-joined, else-joined}
 
-pub overflow-add-found : goal.overflow-add-found
-overflow-add-found c =
+pub overflow_add-found : goal.overflow_add-found
+overflow_add-found c =
     let m = c.args.self.now in
     omega (arith, count_le ((table_shape m.n m.words.now).joined c.args.u) c.loop-v.v, c.loop-v.invariant, c.loop-v-test.true, m.size.1)
 

@@ -16,39 +16,36 @@ returns-then-self c =
       left = (refl, refl, refl, same);
     }
 
-put : (c : goal.After-slot-slot) → Written c.args.self.now.n c.args.self.now.words.now c.args.u c.args.v c.slot-slot.result c.key-of-word.result
+put : (c : goal.After-slot-slot) → Written c.args.self.now.n c.args.self.now.words.now c.args.u c.args.v c.slot-slot.result c.key_of-word.result
 put c =
     let m = c.args.self.now in
     let fresh = table_fresh m.n m.words.now c.args.u c.args.v c.joined.result c.joined.ensures c.in-Fresh.ensures in
-    written m.n m.words.now c.args.u c.args.v m.used c.slot-slot.result c.key-of-word.result m.size m.gapless
-    m.pairs m.slots fresh c.if-self.false c.key-of-word.ensures c.slot-slot.ensures
+    written m.n m.words.now c.args.u c.args.v m.used c.slot-slot.result c.key_of-word.result m.size m.gapless
+    m.pairs m.slots fresh c.if-self.false c.key_of-word.ensures c.slot-slot.ensures
 
-pub offset-bounds-self-slot : goal.offset-bounds-self-slot
-offset-bounds-self-slot c = omega (arith, (put c).inside, c.fits-self)
+pub offset_bounds-self-slot : goal.offset_bounds-self-slot
+offset_bounds-self-slot c = omega (arith, (put c).inside, c.fits-self)
 
 pub bounds-self-slot : goal.bounds-self-slot
 bounds-self-slot c = (put c).inside
 
-pub invariant-of-self : goal.invariant-of-self
-invariant-of-self c =
+pub invariant_of-self : goal.invariant_of-self
+invariant_of-self c =
     let m = c.args.self.now in
-    let w = put c in (
-      (m.size.0, m.size.1, omega (arith, w.long, m.size.2)),
-      (
-        ap (λ (x : ℕ). x + 1) m.pairs ∙ w.pairs,
-        (
-          ap (λ (x : ℕ). x + 1) m.slots ∙ w.slots,
-          (w.gapless, tt),
-        ),
-      ),
-    )
+    let w = put c in
+    record {
+      size = (m.size.0, m.size.1, omega (arith, w.long, m.size.2));
+      pairs = ap (λ (x : ℕ). x + 1) m.pairs ∙ w.pairs;
+      slots = ap (λ (x : ℕ). x + 1) m.slots ∙ w.slots;
+      gapless = w.gapless;
+    }
 
 pub returns-else-self : goal.returns-else-self
 returns-else-self c =
     let m = c.args.self.now in
     let fresh = table_fresh m.n m.words.now c.args.u c.args.v c.joined.result c.joined.ensures c.in-Fresh.ensures in
-    let w = written m.n m.words.now c.args.u c.args.v m.used c.slot-slot.result c.key-of-word.result m.size m.gapless
-    m.pairs m.slots fresh c.if-self.false c.key-of-word.ensures c.slot-slot.ensures in
+    let w = written m.n m.words.now c.args.u c.args.v m.used c.slot-slot.result c.key_of-word.result m.size m.gapless
+    m.pairs m.slots fresh c.if-self.false c.key_of-word.ensures c.slot-slot.ensures in
     record {
       answer = sym (added_answer (table_meaning m.n m.words.now) c.args.u c.args.v fresh
           (table_room m.n m.words.now m.used m.pairs c.if-self.false));

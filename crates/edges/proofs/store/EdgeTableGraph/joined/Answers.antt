@@ -14,6 +14,6 @@ returns c =
     let outside : ((leb m.n u || leb m.n v) || eqb u v) ≡ false = c.if-u-self.false in
     let t = two_inside m.n u v outside in
     c.finds.ensures
-    ∙ (ap (λ k. found_at m.words.now k (landing m.words.now k)) c.key-of.ensures
+    ∙ (ap (λ k. found_at m.words.now k (landing m.words.now k)) c.key_of.ensures
     ∙ (found_key m.words.now (key u v) m.gapless (key_some u v t.2)
     ∙ sym (joined_key m.n m.words.now u v t.0 t.1 t.2)))

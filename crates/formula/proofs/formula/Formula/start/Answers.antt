@@ -1,15 +1,15 @@
-use Rattle.std.proofs.Common.{◌≡◌, ◌<◌, ◌≤◌, length, take, Some, sym, ap, ◌∙◌, arith, length-take, get_or-take, rules}
+use Rattle.std.proofs.Common.{◌≡◌, ◌<◌, ◌≤◌, length, take, Some, slice_get, sym, ap, ◌∙◌, arith, length-take, get_or-take, rules}
 use Rattle.std.proofs.lemmas.Bool.Decides.{nat_tests}
 use Rattle.std.proofs.lemmas.Option.{slice_get_past, slice_get-get_or}
 use Rattle.formula.specs.Outcome.{starts_of}
 use Rattle.formula.proofs.formula.Formula.start.Goals as goal
 
-pub returns-then-not-has-record : goal.returns-then-not-has-record
-returns-then-not-has-record c =
+pub returns-then-not-has_record : goal.returns-then-not-has_record
+returns-then-not-has_record c =
     let f = c.args.self.now in
     let past : f.header.records ≤ c.args.number = grind (arith, nat_tests) in
     let few : length (take f.header.records f.starts) ≤ c.args.number = omega (arith, length-take f.header.records f.starts) in
-    sym (ap (λ l. Rattle.std.specs.Iterator.Runs.nth l c.args.number) (sym f.placed) ∙ slice_get_past (take f.header.records f.starts) c.args.number few)
+    sym (ap (λ l. slice_get l c.args.number) (sym f.placed) ∙ slice_get_past (take f.header.records f.starts) c.args.number few)
 
 pub returns : goal.returns
 returns c =
@@ -18,4 +18,4 @@ returns c =
     let whole : c.args.number < length (take f.header.records f.starts) =
     omega (arith, length-take f.header.records f.starts, f.whole, f.header.few_records) in
     let found = slice_get-get_or (take f.header.records f.starts) c.args.number 0 whole in
-    sym (ap (λ l. Rattle.std.specs.Iterator.Runs.nth l c.args.number) (sym f.placed) ∙ (found ∙ ap Some (get_or-take f.header.records f.starts c.args.number 0 inside)))
+    sym (ap (λ l. slice_get l c.args.number) (sym f.placed) ∙ (found ∙ ap Some (get_or-take f.header.records f.starts c.args.number 0 inside)))

@@ -12,12 +12,12 @@ use Rattle.formula.proofs.Granting.{granted}
 use Rattle.formula.proofs.SoFar.{so_far_none, so_far_more, so_far_bad}
 use Rattle.formula.proofs.formula.rows.read_rows.Goals as goal
 
-pub returns-in-err-record : goal.returns-in-err-record
-returns-in-err-record c =
-    let p = err_from_is_err_and c.from-residual.result c.from-residual.ensures.1 in
-    let fault = c.in-err-record.field-0.0 in
+pub returns-in_err-record : goal.returns-in_err-record
+returns-in_err-record c =
+    let p = err_from_is_err_and c.from_residual.result c.from_residual.ensures.1 in
+    let fault = c.in_err-record.field-0.0 in
     let e : record_at c.args.limits.now c.args.bytes.now c.loop-i.reader.at ≡ bad (number_of fault) (place_of fault) =
-    rw (← c.loop-i.invariant.1) (sym c.in-err-record.ensures.value) in
+    rw (← c.loop-i.invariant.1) (sym c.in_err-record.ensures.value) in
     let less : c.loop-i.i < c.args.code.reach = omega arith in
     rw (p.1, p.2) record {
       value = sym (so_far_bad _ _ _ _ _ c.loop-i.i _ _ _ _ c.loop-i.reader.at c.loop-i.invariant.0 c.args.code.reach (number_of fault) (place_of fault) less e);
@@ -36,10 +36,10 @@ loop-i-init c = (
 pub loop-i-preserved : goal.loop-i-preserved
 loop-i-preserved c =
     let so = c.loop-i.invariant.0 in
-    let row = c.to-row-row.result in
-    let ok : Bytes c.args.bytes.now = λ k. omega (arith, c.type-inv.bytes k) in
+    let row = c.to_row-row.result in
+    let ok : Bytes c.args.bytes.now = λ k. omega (arith, c.type_inv.bytes k) in
     let e : record_at c.args.limits.now c.args.bytes.now c.place-last.result ≡ got (fields row) c.record.new.self.at =
-    rw (c.place-last.ensures, ← c.loop-i.invariant.1, c.to-row-row.ensures) (sym c.in-ok-record.ensures.value) in
+    rw (c.place-last.ensures, ← c.loop-i.invariant.1, c.to_row-row.ensures) (sym c.in_ok-record.ensures.value) in
     let sound = record_sound c.args.bytes.now ok c.args.limits.now c.place-last.result (fields row) c.record.new.self.at e in
     let reach : c.loop-i.code.reach ≡ c.args.limits.now.targets = so.reached ∙ c.requires.targets in
     let room : length (rows_of c.loop-i.code) < c.loop-i.code.reach = omega arith in

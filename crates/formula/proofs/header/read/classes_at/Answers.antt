@@ -12,7 +12,7 @@ returns-then-classes-values-ne0 c =
     let size = (c.args.values + 7) / 8 in
     let all : (at + size) - at ≡ size = omega arith in
     let whole : at + size ≤ length bytes = grind (arith, nat_tests) in
-    let is : c.number-of-classes.result ≡ number (take size (drop at bytes)) = rw all at c.number-of-classes.ensures in
+    let is : c.number_of-classes.result ≡ number (take size (drop at bytes)) = rw all at c.number_of-classes.ensures in
     let large : 2 ^ c.args.values ≤ number (take size (drop at bytes)) =
     elim (cases_lt (number (take size (drop at bytes))) (2 ^ c.args.values)) [
       | inl less ↦ absurd (c.if-classes-values-ne0.true (ap (λ n. n / 2 ^ c.args.values) is ∙ div-eq_of_lt less))

@@ -15,13 +15,13 @@ pub loop-i-init : goal.loop-i-init
 loop-i-init c =
     (rw (drop_all (length c.args.bytes.now) c.args.bytes.now (omega arith)) refl, pow_pos _)
 
-pub overflow-mul-value : goal.overflow-mul-value
-overflow-mul-value c =
+pub overflow_mul-value : goal.overflow_mul-value
+overflow_mul-value c =
     let less = room c.loop-i.value (length c.args.bytes.now - c.loop-i.i) c.loop-i.invariant.1 (omega arith) in
     omega arith
 
-pub overflow-add-value : goal.overflow-add-value
-overflow-add-value c =
+pub overflow_add-value : goal.overflow_add-value
+overflow_add-value c =
     let less = room c.loop-i.value (length c.args.bytes.now - c.loop-i.i) c.loop-i.invariant.1 (omega arith) in
     omega arith
 

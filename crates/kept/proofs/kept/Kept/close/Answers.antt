@@ -47,8 +47,8 @@ invariant-of-self c =
     let state = closed_state k m (set k.moves m c.closed.result) rows in
     let whole = length-set k.moves m c.closed.result ∙ (sound_of k).whole_moves in
     elim c.requires [
-      | inl g ↦ (∣ moves_sound k (set k.moves m c.closed.result) (together m) whole state (together_stays k m) g ∣₁, tt)
-      | inr g ↦ (∣ moves_sound k (set k.moves m c.closed.result) (apart m) whole (state ∙ sym (apart_together (state_of k) m)) (apart_stays k m) g ∣₁, tt)
+      | inl g ↦ record { sound = ∣ moves_sound k (set k.moves m c.closed.result) (together m) whole state (together_stays k m) g ∣₁ }
+      | inr g ↦ record { sound = ∣ moves_sound k (set k.moves m c.closed.result) (apart m) whole (state ∙ sym (apart_together (state_of k) m)) (apart_stays k m) g ∣₁ }
     ]
 
 pub returns : goal.returns

@@ -18,7 +18,7 @@ invariant-of-self c =
     let o = c.in-Ok.ensures (frozen v) ∙ says in
     let g = granted_on k (freeze v) (frozen v) o in
     let state = frozen_state k v c.closed-moves-moves.result c.closed-moves-moves.ensures.each in
-    (∣ moves_sound k c.closed-moves-moves.result (frozen v) c.closed-moves-moves.ensures.whole state (frozen_stays k v) g ∣₁, tt)
+    record { sound = ∣ moves_sound k c.closed-moves-moves.result (frozen v) c.closed-moves-moves.ensures.whole state (frozen_stays k v) g ∣₁ }
 
 pub returns-in-Ok : goal.returns-in-Ok
 unfolding base_of state_of

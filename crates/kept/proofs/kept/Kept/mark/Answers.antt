@@ -13,7 +13,7 @@ invariant-of-self c =
     let v = c.args.v in
     let o = c.in-Ok.ensures (marked v) ∙ sym (outcome_mark (base_of k) (state_of k) v) in
     let g = granted_on k (mark v) (marked v) o in
-    (∣ marked_sound k v c.insert.new.self (stands_small k v g) c.insert.ensures.after g ∣₁, tt)
+    record { sound = ∣ marked_sound k v c.insert.new.self (stands_small k v g) c.insert.ensures.after g ∣₁ }
 
 pub returns-in-Ok : goal.returns-in-Ok
 unfolding base_of state_of

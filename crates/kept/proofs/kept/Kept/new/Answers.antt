@@ -6,7 +6,7 @@ use Rattle.kept.proofs.Opening.{opened_state, opened_kept}
 use Rattle.kept.proofs.kept.Kept.new.Goals as goal
 
 pub invariant-of-result : goal.invariant-of-result
-invariant-of-result c = (∣ opened_kept c.args.standing _ c.new.result c.requires c.new.ensures ∣₁, tt)
+invariant-of-result c = record { sound = ∣ opened_kept c.args.standing _ c.new.result c.requires c.new.ensures ∣₁ }
 
 pub returns : goal.returns
 unfolding base_of state_of

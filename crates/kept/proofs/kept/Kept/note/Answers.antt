@@ -36,7 +36,7 @@ invariant-of-self c =
     let o = sym (outcome_note (base_of k) (state_of k) u v ∙ note_granted k u v c.size-n.result c.stands.result c.stands-2.result c.size-n.ensures c.stands.ensures c.stands-2.ensures c.if-u-n.false c.if-not-stands.false c.if-m-ge128.false) in
     let whole : length k.moves ≡ 128 = (sound_of k).whole_moves in
     let inside : k.noted < length k.moves = omega arith in
-    (∣ noted_sound k u v row c.if-m-ge128.false refl (moves_more k.moves k.noted row inside) k.noted (granted_on k (note u v) (noted k.noted u v) o) ∣₁, tt)
+    record { sound = ∣ noted_sound k u v row c.if-m-ge128.false refl (moves_more k.moves k.noted row inside) k.noted (granted_on k (note u v) (noted k.noted u v) o) ∣₁ }
 
 pub returns : goal.returns
 unfolding base_of state_of

@@ -56,7 +56,7 @@ invariant-of-self c =
     let stood : (standing_graph (base_of k) (state_of k)).stands v ≡ true = (and_parts _ (not (fixed (base_of k) v)) g.stays_loose).0 in
     let room : 1 ≤ k.top = some_room k v stood in
     let most : k.top ≤ 512 = (sound_of k).top_inside in
-    (∣ pushed_sound k v c.remove.new.self c.closed-moves-moves.result (k.top - 1) (omega arith) c.remove.ensures.base c.remove.ensures.board c.remove.ensures.left c.closed-moves-moves.ensures.whole c.closed-moves-moves.ensures.each g ∣₁, tt)
+    record { sound = ∣ pushed_sound k v c.remove.new.self c.closed-moves-moves.result (k.top - 1) (omega arith) c.remove.ensures.base c.remove.ensures.board c.remove.ensures.left c.closed-moves-moves.ensures.whole c.closed-moves-moves.ensures.each g ∣₁ }
 
 pub returns-in-Ok : goal.returns-in-Ok
 unfolding base_of state_of

@@ -66,12 +66,9 @@ invariant-of-self c =
     let min-is : c.min.result ≡ min ((state_of k).table u) ((state_of k).table v) = c.min.ensures ∙ ap₂ min ends.0 ends.1 in
     let max-is : c.max.result ≡ max ((state_of k).table u) ((state_of k).table v) = c.max.ensures ∙ ap₂ max ends.0 ends.1 in
     let rows = closed_one k m c.closed.result low-k c.closed.ensures in
-    let whole = length-set k.moves m c.closed.result ∙ (sound_of k).whole_moves in (
-      ∣ merged_sound k m u v c.requires c.unite.new.self (set k.moves m c.closed.result) c.unite.ensures.base
+    let whole = length-set k.moves m c.closed.result ∙ (sound_of k).whole_moves in record { sound = ∣ merged_sound k m u v c.requires c.unite.new.self (set k.moves m c.closed.result) c.unite.ensures.base
           (c.unite.ensures.table ∙ ap₂ (united (table_of (board_of k.standing))) max-is min-is)
-          (λ w. c.unite.ensures.left w ∙ ap (λ (y : ℕ). is_left k.standing w && not (eqb w y)) max-is) whole rows ∣₁,
-      tt,
-    )
+          (λ w. c.unite.ensures.left w ∙ ap (λ (y : ℕ). is_left k.standing w && not (eqb w y)) max-is) whole rows ∣₁ }
 
 pub returns : goal.returns
 unfolding base_of state_of

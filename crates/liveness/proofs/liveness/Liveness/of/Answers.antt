@@ -23,7 +23,7 @@ returns c =
     let exact = before_decides rows before c.settle.ensures.sound closed in
     record {
       before = exact;
-      after = after_decides rows before c.settle.ensures.sound closed c.look-ahead.new.after c.look-ahead.ensures;
+      after = after_decides rows before c.settle.ensures.sound closed c.look_ahead.new.after c.look_ahead.ensures;
       undefined = undefined_cases rows before exact;
       laws = lawful rows;
     }

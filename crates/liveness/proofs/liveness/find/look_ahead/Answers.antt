@@ -9,7 +9,7 @@ loop-place-preserved c =
     let inside : c.loop-place.place < length c.loop-place.after = omega arith in
     below_more _ c.loop-place.place
     (λ i h v. let ne : i ≢ c.loop-place.place = omega arith in rw (in_set_other _ _ _ v _ ne) (c.loop-place.invariant i h v))
-    (λ v. rw (in_set_same _ _ v _ inside) (c.set-after.ensures v))
+    (λ v. rw (in_set_same _ _ v _ inside) (c.set_after.ensures v))
 
 pub returns : goal.returns
 returns c = λ i v.

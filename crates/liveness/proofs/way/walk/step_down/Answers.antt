@@ -8,20 +8,20 @@ use Rattle.liveness.proofs.Leading.{by_next}
 use Rattle.liveness.proofs.Places.{follows_at, follows_past}
 use Rattle.liveness.proofs.way.walk.step_down.Goals as goal
 
-pub returns-in-default : goal.returns-in-default
-returns-in-default c =
-    absurd (false≢true (sym (follows_past (rows_of c.args.code.now) c.args.place (sym c.in-default.ensures.value) c.requires.lower.0) ∙ c.requires.lower.1))
+pub returns-in_default : goal.returns-in_default
+returns-in_default c =
+    absurd (false≢true (sym (follows_past (rows_of c.args.code.now) c.args.place (sym c.in_default.ensures.value) c.requires.lower.0) ∙ c.requires.lower.1))
 
-pub returns-in-default-target : goal.returns-in-default-target
-returns-in-default-target c =
+pub returns-in_default-target : goal.returns-in_default-target
+returns-in_default-target c =
     let j = c.requires.lower.0 in
     let found = by_next (rows_of c.args.code.now) c.args.place (fields c.in-Some.row) (sym c.in-Some.ensures.value)
     (rank c.args.ranks.now) j c.requires.lower.1 c.requires.lower.2
-    (λ e. false≢true (ap (λ o. names o j) c.in-default-target.ensures ∙ e)) in
+    (λ e. false≢true (ap (λ o. names o j) c.in_default-target.ensures ∙ e)) in
     record { next = found.0; lower = found.1 }
 
-pub returns-then-rank-at : goal.returns-then-rank-at
-returns-then-rank-at c =
+pub returns-then-rank_at : goal.returns-then-rank_at
+returns-then-rank_at c =
     let t = c.in-Some-target.target in
     let named : names (fields c.in-Some.row).target t ≡ true =
     ap (λ o. names o t) (sym c.in-Some-target.ensures) ∙ eq-eqb t t refl in

@@ -4,8 +4,8 @@ use Rattle.liveness.specs.Ranks.{rank}
 use Rattle.liveness.proofs.Leading.{led_on, led_end, rank_inside, way_more, way_whole, behind_more}
 use Rattle.liveness.proofs.way.walk.walk.Goals as goal
 
-pub step-down-place-requires : goal.step-down-place-requires
-step-down-place-requires c =
+pub step_down-place-requires : goal.step_down-place-requires
+step_down-place-requires c =
     let above : 0 < rank c.args.ranks.now c.loop-way.place = omega arith in
     let small : rank c.args.ranks.now c.loop-way.place < 512 = omega arith in
     let on = led_on (rows_of c.args.code.now) c.args.value c.args.ranks.now c.loop-way.place (c.requires.level c.loop-way.place) above
@@ -19,11 +19,11 @@ loop-way-preserved c =
     let on = led_on (rows_of c.args.code.now) c.args.value c.args.ranks.now c.loop-way.place (c.requires.level c.loop-way.place) above
     (c.requires.ranked.led c.loop-way.place small) in
     let room : c.loop-way.len < length c.loop-way.way = omega arith in
-    let inside : c.step-down-place.result < length c.args.ranks.now =
-    rank_inside c.args.ranks.now c.step-down-place.result (omega arith) in (
+    let inside : c.step_down-place.result < length c.args.ranks.now =
+    rank_inside c.args.ranks.now c.step_down-place.result (omega arith) in (
       omega arith,
       way_more (rows_of c.args.code.now) c.args.value c.loop-way.way c.loop-way.len c.loop-way.place room c.loop-way.invariant.1
-          c.step-down-place.result on.0 c.step-down-place.ensures.next,
+          c.step_down-place.result on.0 c.step_down-place.ensures.next,
       behind_more c.loop-way.way c.args.way.now c.loop-way.len c.loop-way.place c.loop-way.invariant.2,
       length-set c.loop-way.way c.loop-way.len c.loop-way.place ∙ c.loop-way.invariant.3,
       omega arith,

@@ -8,7 +8,7 @@ pub returns : goal.returns
 returns c =
     let bytes : List ℕ = c.args.memory.now in
     let now : c.clear.new.bits ≡ cleared (bytes_for c.args.n) bytes =
-    c.clear.ensures ∙ ap (λ (k : ℕ). cleared k bytes) c.whole-bytes.ensures in
+    c.clear.ensures ∙ ap (λ (k : ℕ). cleared k bytes) c.whole_bytes.ensures in
     record {
       size = refl;
       bits = now;

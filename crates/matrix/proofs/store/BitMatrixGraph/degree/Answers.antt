@@ -9,25 +9,25 @@ use Rattle.matrix.proofs.store.BitMatrixGraph.degree.Goals as goal
 pub returns-then-u-self : goal.returns-then-u-self
 returns-then-u-self c = degree_outside c.args.self.now.n c.args.self.now.bits.now c.args.u c.if-u-self.true
 
-pub ones-between-requires : goal.ones-between-requires
-ones-between-requires c =
+pub ones_between-requires : goal.ones_between-requires
+ones_between-requires c =
     let m = c.args.self.now in
     let ends = row_end m.n c.args.u c.if-u-self.false in
     let most = triangle_most m.n m.room.1 in
-    let row = c.row-start-row.ensures.place in
+    let row = c.row_start-row.ensures.place in
     (omega arith, (omega (arith, m.room.2), omega arith))
 
-pub overflow-add-result : goal.overflow-add-result
-overflow-add-result c =
+pub overflow_add-result : goal.overflow_add-result
+overflow_add-result c =
     let m = c.args.self.now in
-    let row : ℕ = c.row-start-row.result in
+    let row : ℕ = c.row_start-row.result in
     let few = between_le (bit_at m.bits.now) row (row + c.args.u) in
     let rest = between_le (above m.bits.now c.args.u) (c.args.u + 1) m.n in
-    omega (arith, c.ones-between.ensures, c.ones-above.ensures, m.room.1, c.if-u-self.false)
+    omega (arith, c.ones_between.ensures, c.ones_above.ensures, m.room.1, c.if-u-self.false)
 
 pub returns : goal.returns
 returns c =
     let m = c.args.self.now in
-    let row = c.row-start-row.ensures.place in
-    let lower = c.ones-between.ensures ∙ ap (λ (x : ℕ). between (bit_at m.bits.now) x (x + c.args.u)) row in
-    ap₂ (λ (x y : ℕ). x + y) lower c.ones-above.ensures ∙ degree_rows m.n m.bits.now c.args.u c.if-u-self.false
+    let row = c.row_start-row.ensures.place in
+    let lower = c.ones_between.ensures ∙ ap (λ (x : ℕ). between (bit_at m.bits.now) x (x + c.args.u)) row in
+    ap₂ (λ (x y : ℕ). x + y) lower c.ones_above.ensures ∙ degree_rows m.n m.bits.now c.args.u c.if-u-self.false

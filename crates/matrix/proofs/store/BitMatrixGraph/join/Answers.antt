@@ -7,13 +7,13 @@ pub bounds-self-place : goal.bounds-self-place
 bounds-self-place c =
     let m = c.args.self.now in
     let fresh = matrix_fresh m.n m.bits.now c.args.u c.args.v c.joined.result c.joined.ensures c.in-Fresh.ensures in
-    matrix_byte m.n m.bits.now c.args.u c.args.v c.cell-of-place.result fresh c.cell-of-place.ensures m.room.2
+    matrix_byte m.n m.bits.now c.args.u c.args.v c.cell_of-place.result fresh c.cell_of-place.ensures m.room.2
 
 pub bounds-self-place-in-Fresh : goal.bounds-self-place-in-Fresh
 bounds-self-place-in-Fresh c =
     let m = c.args.self.now in
     let fresh = matrix_fresh m.n m.bits.now c.args.u c.args.v c.joined.result c.joined.ensures c.in-Fresh.ensures in
-    matrix_byte m.n m.bits.now c.args.u c.args.v c.cell-of-place.result fresh c.cell-of-place.ensures m.room.2
+    matrix_byte m.n m.bits.now c.args.u c.args.v c.cell_of-place.result fresh c.cell_of-place.ensures m.room.2
 
 pub returns-in-Fresh : goal.returns-in-Fresh
 returns-in-Fresh c =
@@ -24,7 +24,7 @@ returns-in-Fresh c =
     let v : ℕ = c.args.v in
     let fresh = matrix_fresh n bytes u v c.joined.result c.joined.ensures c.in-Fresh.ensures in
     let byte = fresh_byte n bytes u v fresh in
-    let written = written_bit bytes c.cell-of-place.result _ c.cell-of-place.ensures in
+    let written = written_bit bytes c.cell_of-place.result _ c.cell_of-place.ensures in
     let after = ap (matrix_meaning n) written ∙ matrix_after n bytes u v m.room.0 m.room.1 fresh
     (matrix_byte n bytes u v _ fresh refl m.room.2) in
     record {

@@ -7,8 +7,8 @@ pub loop-i-preserved : goal.loop-i-preserved
 loop-i-preserved c =
     let inside : c.loop-i.i < length c.loop-i.words = omega arith in (
       simp length-set c.loop-i.invariant.0,
-      fills_more c.args.n c.loop-i.words c.loop-i.i c.low-digits.result inside c.loop-i.invariant.1
-          (λ j l. c.low-digits.ensures j l ∙ ap (ltb j) c.saturating-sub.ensures),
+      fills_more c.args.n c.loop-i.words c.loop-i.i c.low_digits.result inside c.loop-i.invariant.1
+          (λ j l. c.low_digits.ensures j l ∙ ap (ltb j) c.saturating_sub.ensures),
     )
 
 pub returns : goal.returns

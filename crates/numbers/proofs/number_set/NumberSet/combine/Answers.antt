@@ -9,7 +9,7 @@ pub loop-i-preserved : goal.loop-i-preserved
 loop-i-preserved c =
     let inside : c.loop-i.i < length c.loop-i.words = omega arith in (
       simp length-set c.loop-i.invariant.0,
-      joins_more (ruled c.args.rule) _ _ c.loop-i.words c.loop-i.i _ inside c.loop-i.invariant.1 c.combine-words.ensures,
+      joins_more (ruled c.args.rule) _ _ c.loop-i.words c.loop-i.i _ inside c.loop-i.invariant.1 c.combine_words.ensures,
     )
 
 pub returns : goal.returns

@@ -5,8 +5,8 @@ use Rattle.numbers.specs.Sets.{has}
 use Rattle.numbers.proofs.Rows.{count_words}
 use Rattle.numbers.proofs.number_set.NumberSet.len_in_word.Goals as goal
 
-pub overflow-cast-result : goal.overflow-cast-result
-overflow-cast-result c =
+pub overflow_cast-result : goal.overflow_cast-result
+overflow_cast-result c =
     let few : ones (get_or c.args.self.now.words c.args.i 0) ≤ 64 = ones-le 64 (get_or c.args.self.now.words c.args.i 0) (omega arith) in
     omega arith
 

@@ -7,7 +7,7 @@ use Rattle.standing.proofs.standing.Standing.remove.Goals as goal
 pub invariant-of-self : goal.invariant-of-self
 invariant-of-self c =
     let was = told_standing _ _ _ _ c.args.self.now.sound in
-    (∣ record { base = was.base; inside = λ v h. was.inside v (and_parts _ _ (sym (c.remove.ensures v) ∙ h)).0 } ∣₁, tt)
+    record { sound = ∣ record { base = was.base; inside = λ v h. was.inside v (and_parts _ _ (sym (c.remove.ensures v) ∙ h)).0 } ∣₁ }
 
 pub returns : goal.returns
 unfolding base_of board_of is_left
