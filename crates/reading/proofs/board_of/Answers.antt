@@ -10,12 +10,12 @@ pub new-requires : goal.new-requires
 new-requires g c =
     let s : Shape = (g.H.Graph.means c.args.graph.now).shape in
     let l : Lawful s = g.H.Graph.lawful c.args.graph.now in
-    (c.rows-of-rows.ensures.whole, subst Lawful (sym (snapshot_is s c.size.result c.vertices-of-vertices.result c.rows-of-rows.result c.size.ensures c.vertices-of-vertices.ensures c.rows-of-rows.ensures.each)) l)
+    (c.rows_of-rows.ensures.whole, subst Lawful (sym (snapshot_is s c.size.result c.vertices_of-vertices.result c.rows_of-rows.result c.size.ensures c.vertices_of-vertices.ensures c.rows_of-rows.ensures.each)) l)
 
 pub returns : goal.returns
 returns g c =
     let s : Shape = (g.H.Graph.means c.args.graph.now).shape in
     record {
-      graph = c.new.ensures.graph ∙ snapshot_is s c.size.result c.vertices-of-vertices.result c.rows-of-rows.result c.size.ensures c.vertices-of-vertices.ensures c.rows-of-rows.ensures.each;
+      graph = c.new.ensures.graph ∙ snapshot_is s c.size.result c.vertices_of-vertices.result c.rows_of-rows.result c.size.ensures c.vertices_of-vertices.ensures c.rows_of-rows.ensures.each;
       table = c.new.ensures.table;
     }

@@ -17,7 +17,7 @@ loop-u-preserved g c =
     let s : Shape = (g.H.Graph.means c.args.graph.now).shape in
     let l : Lawful s = g.H.Graph.lawful c.args.graph.now in
     elim c.if-contains.branch [
-      | then-contains w ↦ rows_at s.joined _ _ _ w.rows-is (rows_then s.joined c.loop-u.rows c.loop-u.u c.loop-u-test.true c.loop-u.invariant w.row-of.result w.row-of.ensures)
+      | then-contains w ↦ rows_at s.joined _ _ _ w.rows-is (rows_then s.joined c.loop-u.rows c.loop-u.u c.loop-u-test.true c.loop-u.invariant w.row_of.result w.row_of.ensures)
       | else-contains w ↦ rows_at s.joined _ _ _ w.rows-is (rows_else s.joined c.loop-u.rows c.loop-u.u c.loop-u-test.true c.loop-u.invariant
           (λ v. not_standing s l c.loop-u.u v (sym (c.requires c.loop-u.u) ∙ sym w.if-contains.ensures)))
     ]

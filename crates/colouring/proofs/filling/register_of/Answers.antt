@@ -16,20 +16,20 @@ use Rattle.colouring.specs.Painting.{merged_under, read_at, member_register}
 use Rattle.colouring.proofs.Registers.{none_given, given_now, painted_step, painted_end, used_then, used_else}
 use Rattle.colouring.proofs.filling.register_of.Goals as goal
 
-pub returns-then-not-is-vertex : goal.returns-then-not-is-vertex
-returns-then-not-is-vertex c =
-    sym (cond-false _ _ _ (sym (c.if-not-is-vertex.ensures ∙ ap (λ (b : Board). (opened_graph b).stands c.args.v) c.board.ensures)))
+pub returns-then-not-is_vertex : goal.returns-then-not-is_vertex
+returns-then-not-is_vertex c =
+    sym (cond-false _ _ _ (sym (c.if-not-is_vertex.ensures ∙ ap (λ (b : Board). (opened_graph b).stands c.args.v) c.board.ensures)))
 
 pub returns-in-Some : goal.returns-in-Some
 returns-in-Some c =
     let found = c.in-Some.ensures.lookup in
     let low : c.group.result < length c.args.groups.now = ltb-true _ _ (sym found.0) in
-    let stood = sym (c.if-not-is-vertex.ensures ∙ ap (λ (b : Board). (opened_graph b).stands c.args.v) c.board.ensures) in
+    let stood = sym (c.if-not-is_vertex.ensures ∙ ap (λ (b : Board). (opened_graph b).stands c.args.v) c.board.ensures) in
     found.1 ∙ (get_or_default c.args.groups.now c.group.result _ 255 low ∙ (ap (read_at c.args.groups.now) c.group.ensures ∙ sym (cond-true _ _ _ stood)))
 
 pub returns-in-None : goal.returns-in-None
 returns-in-None c =
     let found = c.in-None.ensures.lookup in
     let high : length c.args.groups.now ≤ c.group.result = ltb-false _ _ (sym found.0) in
-    let stood = sym (c.if-not-is-vertex.ensures ∙ ap (λ (b : Board). (opened_graph b).stands c.args.v) c.board.ensures) in
+    let stood = sym (c.if-not-is_vertex.ensures ∙ ap (λ (b : Board). (opened_graph b).stands c.args.v) c.board.ensures) in
     sym (cond-true _ _ _ stood ∙ (sym (ap (read_at c.args.groups.now) c.group.ensures) ∙ get_or_past c.args.groups.now c.group.result 255 high))

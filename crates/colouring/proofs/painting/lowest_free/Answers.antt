@@ -17,8 +17,8 @@ use Rattle.colouring.proofs.Registers.{none_given, given_now, painted_step, pain
 use Rattle.graph.proofs.Counting.{first_here, first_later, first_none}
 use Rattle.colouring.proofs.painting.lowest_free.Goals as goal
 
-pub overflow-add-end : goal.overflow-add-end
-overflow-add-end c =
+pub overflow_add-end : goal.overflow_add-end
+overflow_add-end c =
     let small : (base_of c.args.standing.now).first + (base_of c.args.standing.now).registers ≤ 32 = bank_small c.args.standing.now in
     omega arith
 
@@ -29,8 +29,8 @@ loop-r-init c =
     let many : c.first-start.result + c.registers.result - c.first-start.result ≡ b.registers = omega arith in
     (c.first-start.ensures, ap (λ (k : ℕ). c.first-start.result + k) c.registers.ensures, sym (ap₂ (first p) c.first-start.ensures many))
 
-pub overflow-cast-result : goal.overflow-cast-result
-overflow-cast-result c =
+pub overflow_cast-result : goal.overflow_cast-result
+overflow_cast-result c =
     let small : (base_of c.args.standing.now).first + (base_of c.args.standing.now).registers ≤ 32 = bank_small c.args.standing.now in
     let end : c.first-start.result + c.registers.result ≡ c.first-start.result + (base_of c.args.standing.now).registers = c.loop-r.invariant.1 in
     let start : c.first-start.result ≡ (base_of c.args.standing.now).first = c.loop-r.invariant.0 in

@@ -14,7 +14,7 @@ use Rattle.std.proofs.lemmas.Bool.{cases_lt, cases_eq, cases_Bool, both_ways, co
 use Rattle.std.proofs.lemmas.List.{get_or-set_same, get_or-set_other, get_or_past, get_or_default, drop-set-lt}
 use Rattle.colouring.specs.Painting.{merged_under, read_at, member_register}
 use Rattle.colouring.proofs.Registers.{own_then, own_else, own_at, none_given, given_now, painted_step, painted_end, used_then, used_else}
-use Rattle.colouring.proofs.painting.own_numbers.Goals.{then-is-fixed, else-is-fixed}
+use Rattle.colouring.proofs.painting.own_numbers.Goals.{then-is_fixed, else-is_fixed}
 use Rattle.colouring.proofs.painting.own_numbers.Goals as goal
 
 pub loop-v-init : goal.loop-v-init
@@ -23,9 +23,9 @@ loop-v-init c = (refl, λ w l. absurd (omega arith), λ w l. none_given 512 w)
 pub loop-v-preserved : goal.loop-v-preserved
 loop-v-preserved c =
     let b = base_of c.args.standing.now in
-    elim c.if-is-fixed.branch [
-      | then-is-fixed w ↦ own_at b _ _ _ w.groups-is (own_then b c.loop-v.groups c.loop-v.v c.loop-v-test.true c.loop-v.invariant (sym w.if-is-fixed.ensures))
-      | else-is-fixed w ↦ own_at b _ _ _ w.groups-is (own_else b c.loop-v.groups c.loop-v.v c.loop-v-test.true c.loop-v.invariant (sym w.if-is-fixed.ensures))
+    elim c.if-is_fixed.branch [
+      | then-is_fixed w ↦ own_at b _ _ _ w.groups-is (own_then b c.loop-v.groups c.loop-v.v c.loop-v-test.true c.loop-v.invariant (sym w.if-is_fixed.ensures))
+      | else-is_fixed w ↦ own_at b _ _ _ w.groups-is (own_else b c.loop-v.groups c.loop-v.v c.loop-v-test.true c.loop-v.invariant (sym w.if-is_fixed.ensures))
     ]
 
 pub returns : goal.returns

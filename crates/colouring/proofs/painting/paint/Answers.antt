@@ -19,8 +19,8 @@ use Rattle.colouring.proofs.painting.paint.Goals as goal
 pub loop-i-init : goal.loop-i-init
 loop-i-init c =
     let s = c.args.standing.now in (
-      c.own-numbers-groups.ensures.whole,
-      ap (λ (d : ℕ → ℕ). painted (base_of s) (merged_under s) d (drop c.args.top c.args.removed.now)) (fun_ext c.own-numbers-groups.ensures.each),
+      c.own_numbers-groups.ensures.whole,
+      ap (λ (d : ℕ → ℕ). painted (base_of s) (merged_under s) d (drop c.args.top c.args.removed.now)) (fun_ext c.own_numbers-groups.ensures.each),
     )
 
 pub loop-i-preserved : goal.loop-i-preserved
@@ -36,11 +36,11 @@ loop-i-preserved c =
     let whole : length groups ≡ 512 = c.loop-i.invariant.0 in
     let inside : i < length removed = omega arith in
     let small : get_or removed i 0 < 512 = c.requires.1 i (omega arith) inside in
-    let free : c.lowest-free.result ≡ lowest_free b g (read_at groups) v =
-    c.lowest-free.ensures ∙ free_same b g (read_at groups) v (has c.used-near-used.result) (bank_small s) c.used-near-used.ensures in
-    let next : read_at (set groups v c.lowest-free.result) ≡ giving (read_at groups) v (lowest_free b g (read_at groups) v) =
-    given_now groups v c.lowest-free.result (omega arith) ∙ ap (giving (read_at groups) v) free in
-    (length-set groups v c.lowest-free.result ∙ whole, painted_step b g (read_at groups) removed i _ inside next ∙ c.loop-i.invariant.1)
+    let free : c.lowest_free.result ≡ lowest_free b g (read_at groups) v =
+    c.lowest_free.ensures ∙ free_same b g (read_at groups) v (has c.used_near-used.result) (bank_small s) c.used_near-used.ensures in
+    let next : read_at (set groups v c.lowest_free.result) ≡ giving (read_at groups) v (lowest_free b g (read_at groups) v) =
+    given_now groups v c.lowest_free.result (omega arith) ∙ ap (giving (read_at groups) v) free in
+    (length-set groups v c.lowest_free.result ∙ whole, painted_step b g (read_at groups) removed i _ inside next ∙ c.loop-i.invariant.1)
 
 pub returns : goal.returns
 returns c =

@@ -11,26 +11,26 @@ use Rattle.joining.proofs.filling.fill.Goals as goal
 pub loop-place-init : goal.loop-place-init
 loop-place-init g c = (record { fine = refl; left = refl }, unchanged)
 
-pub fill-row-requires : goal.fill-row-requires
-fill-row-requires g c = λ v.
+pub fill_row-requires : goal.fill_row-requires
+fill_row-requires g c = λ v.
     let rows = rows_of c.args.code.now in
     same_test (after_of c.of-live.result c.loop-place.place v) (live_after rows c.loop-place.place v)
     (c.of-live.ensures.after c.loop-place.place v) (after_decides rows c.loop-place.place v)
 
-pub returns-in-err-fill-row : goal.returns-in-err-fill-row
+pub returns-in_err-fill_row : goal.returns-in_err-fill_row
 unfolding edges_of
-returns-in-err-fill-row g c =
+returns-in_err-fill_row g c =
     let rows = rows_of c.args.code.now in
     let n = c.args.code.now.numbers in
-    let back = err_from_is_err_and c.from-residual.result c.from-residual.ensures.1 in
-    let same : c.from-residual.result ≡ c.fill-row.result = back.1 ∙ (ap Err back.2 ∙ sym c.in-err-fill-row.was) in
+    let back = err_from_is_err_and c.from_residual.result c.from_residual.ensures.1 in
+    let same : c.from_residual.result ≡ c.fill_row.result = back.1 ∙ (ap Err back.2 ∙ sym c.in_err-fill_row.was) in
     let whole = stops (edges_below rows n) (row_edges rows n) (edges_grow rows n) (g.G.Graph.means c.args.graph.now)
-    c.loop-place.place (length rows) (g.G.Graph.means c.loop-place.graph) c.in-err-fill-row.field-0.0 (omega arith) c.loop-place.invariant.0
-    (sym c.fill-row.ensures.answer ∙ c.in-err-fill-row.was) in
+    c.loop-place.place (length rows) (g.G.Graph.means c.loop-place.graph) c.in_err-fill_row.field-0.0 (omega arith) c.loop-place.invariant.0
+    (sym c.fill_row.ensures.answer ∙ c.in_err-fill_row.was) in
     record {
-      answer = same ∙ (c.fill-row.ensures.answer ∙ sym (ap (λ (f : Filled). f.answer) whole));
-      after = c.fill-row.ensures.after ∙ sym (ap (λ (f : Filled). f.left) whole);
-      left = joined_then g.G.Graph.leaves c.loop-place.invariant.1 c.fill-row.ensures.left;
+      answer = same ∙ (c.fill_row.ensures.answer ∙ sym (ap (λ (f : Filled). f.answer) whole));
+      after = c.fill_row.ensures.after ∙ sym (ap (λ (f : Filled). f.left) whole);
+      left = joined_then g.G.Graph.leaves c.loop-place.invariant.1 c.fill_row.ensures.left;
     }
 
 pub loop-place-preserved : goal.loop-place-preserved
@@ -38,9 +38,9 @@ loop-place-preserved g c =
     let rows = rows_of c.args.code.now in
     let n = c.args.code.now.numbers in (
       goes_on (edges_below rows n) (row_edges rows n) (edges_grow rows n) (g.G.Graph.means c.args.graph.now)
-          c.loop-place.place (g.G.Graph.means c.loop-place.graph) (g.G.Graph.means c.fill-row.new.graph) c.loop-place.invariant.0
-          (sym c.fill-row.ensures.answer ∙ c.in-ok-fill-row.was) c.fill-row.ensures.after,
-      joined_then g.G.Graph.leaves c.loop-place.invariant.1 c.fill-row.ensures.left,
+          c.loop-place.place (g.G.Graph.means c.loop-place.graph) (g.G.Graph.means c.fill_row.new.graph) c.loop-place.invariant.0
+          (sym c.fill_row.ensures.answer ∙ c.in_ok-fill_row.was) c.fill_row.ensures.after,
+      joined_then g.G.Graph.leaves c.loop-place.invariant.1 c.fill_row.ensures.left,
     )
 
 pub returns : goal.returns

@@ -7,10 +7,10 @@ use Rattle.joining.specs.Chains.JoinedOn.{unchanged}
 use Rattle.joining.proofs.Lists.{no_row, sets_none, row_joins}
 use Rattle.joining.proofs.filling.fill_row.Goals as goal
 
-pub returns-in-default : goal.returns-in-default
-returns-in-default g c =
+pub returns-in_default : goal.returns-in_default
+returns-in_default g c =
     let m = g.G.Graph.means c.args.graph.now in
-    let none = no_row (rows_of c.args.code.now) c.args.code.now.numbers c.args.place (sym c.in-default.ensures.value) in
+    let none = no_row (rows_of c.args.code.now) c.args.code.now.numbers c.args.place (sym c.in_default.ensures.value) in
     record {
       answer = sym (ap (λ (es : List Edge). (filled m es).answer) none);
       after = sym (ap (λ (es : List Edge). (filled m es).left) none);
@@ -25,9 +25,9 @@ returns-in-Some-destination g c =
     c.neighbours.ensures (λ v. c.after.ensures v ∙ c.requires v) in
     let all = same ∙ ap (λ (n : ℕ). row_edges (rows_of c.args.code.now) n c.args.place) c.numbers.ensures in
     record {
-      answer = c.join-all.ensures.answer ∙ ap (λ (es : List Edge). (filled m es).answer) all;
-      after = c.join-all.ensures.after ∙ ap (λ (es : List Edge). (filled m es).left) all;
-      left = c.join-all.ensures.left;
+      answer = c.join_all.ensures.answer ∙ ap (λ (es : List Edge). (filled m es).answer) all;
+      after = c.join_all.ensures.after ∙ ap (λ (es : List Edge). (filled m es).left) all;
+      left = c.join_all.ensures.left;
     }
 
 pub returns-in-None : goal.returns-in-None

@@ -9,20 +9,20 @@ use Rattle.joining.proofs.filling.join_all.Goals as goal
 pub loop-v-init : goal.loop-v-init
 loop-v-init g c = (record { fine = refl; left = refl }, unchanged)
 
-pub returns-in-err-join-if : goal.returns-in-err-join-if
-returns-in-err-join-if g c =
+pub returns-in_err-join_if : goal.returns-in_err-join_if
+returns-in_err-join_if g c =
     let p = has c.args.others.now in
     let u = c.args.u in
-    let refusal = c.in-err-join-if.field-0.0 in
-    let back = err_from_is_err_and c.from-residual.result c.from-residual.ensures.1 in
-    let same : c.from-residual.result ≡ c.join-if.result = back.1 ∙ (ap Err back.2 ∙ sym c.in-err-join-if.was) in
+    let refusal = c.in_err-join_if.field-0.0 in
+    let back = err_from_is_err_and c.from_residual.result c.from_residual.ensures.1 in
+    let same : c.from_residual.result ≡ c.join_if.result = back.1 ∙ (ap Err back.2 ∙ sym c.in_err-join_if.was) in
     let whole = stops (λ k. map (edge u) (passing p k)) (λ k. map (edge u) (cond_one (p k) k)) (passing_grows u p) (g.G.Graph.means c.args.graph.now)
     c.loop-v.v c.args.n (g.G.Graph.means c.loop-v.graph) refusal (omega arith) c.loop-v.invariant.0
-    (sym c.join-if.ensures.answer ∙ c.in-err-join-if.was) in
+    (sym c.join_if.ensures.answer ∙ c.in_err-join_if.was) in
     record {
-      answer = same ∙ (c.join-if.ensures.answer ∙ sym (ap (λ (f : Filled). f.answer) whole));
-      after = c.join-if.ensures.after ∙ sym (ap (λ (f : Filled). f.left) whole);
-      left = joined_then g.G.Graph.leaves c.loop-v.invariant.1 c.join-if.ensures.left;
+      answer = same ∙ (c.join_if.ensures.answer ∙ sym (ap (λ (f : Filled). f.answer) whole));
+      after = c.join_if.ensures.after ∙ sym (ap (λ (f : Filled). f.left) whole);
+      left = joined_then g.G.Graph.leaves c.loop-v.invariant.1 c.join_if.ensures.left;
     }
 
 pub loop-v-preserved : goal.loop-v-preserved
@@ -30,7 +30,7 @@ loop-v-preserved g c =
     let p = has c.args.others.now in
     let u = c.args.u in (
       goes_on (λ k. map (edge u) (passing p k)) (λ k. map (edge u) (cond_one (p k) k)) (passing_grows u p) (g.G.Graph.means c.args.graph.now)
-          c.loop-v.v (g.G.Graph.means c.loop-v.graph) (g.G.Graph.means c.join-if.new.graph) c.loop-v.invariant.0
-          (sym c.join-if.ensures.answer ∙ c.in-ok-join-if.was) c.join-if.ensures.after,
-      joined_then g.G.Graph.leaves c.loop-v.invariant.1 c.join-if.ensures.left,
+          c.loop-v.v (g.G.Graph.means c.loop-v.graph) (g.G.Graph.means c.join_if.new.graph) c.loop-v.invariant.0
+          (sym c.join_if.ensures.answer ∙ c.in_ok-join_if.was) c.join_if.ensures.after,
+      joined_then g.G.Graph.leaves c.loop-v.invariant.1 c.join_if.ensures.left,
     )

@@ -10,4 +10,4 @@ pub returns : goal.returns
 unfolding base_of
 returns c =
     let k = c.args.self.now in
-    subst (λ (g : Shape). Decides c.can-be-emptied.result (CanBeEmptied (fixed (base_of k)) (base_of k).registers g)) (graph_is k) c.can-be-emptied.ensures.exactly
+    subst (λ (g : Shape). Decides c.can_be_emptied.result (CanBeEmptied (fixed (base_of k)) (base_of k).registers g)) (graph_is k) c.can_be_emptied.ensures.exactly

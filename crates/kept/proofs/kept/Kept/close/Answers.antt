@@ -9,8 +9,8 @@ use Rattle.kept.proofs.Facts.{sound_of, noted_long}
 use Rattle.kept.proofs.Moving.{closed_one}
 use Rattle.kept.proofs.kept.Kept.close.Goals as goal
 
-pub offset-bounds-moves-m : goal.offset-bounds-moves-m
-offset-bounds-moves-m c =
+pub offset_bounds-moves-m : goal.offset_bounds-moves-m
+offset_bounds-moves-m c =
     let low : c.args.m < length (state_of c.args.self.now).moves = open_low (base_of c.args.self.now) (state_of c.args.self.now) c.args.m c.requires in
     let n : length (state_of c.args.self.now).moves ≡ c.args.self.now.noted = noted_long c.args.self.now in
     let few : c.args.self.now.noted ≤ 128 = (sound_of c.args.self.now).noted_inside in
@@ -23,8 +23,8 @@ bounds-moves-m c =
     let few : c.args.self.now.noted ≤ 128 = (sound_of c.args.self.now).noted_inside in
     omega arith
 
-pub offset-bounds-self-m : goal.offset-bounds-self-m
-offset-bounds-self-m c =
+pub offset_bounds-self-m : goal.offset_bounds-self-m
+offset_bounds-self-m c =
     let low : c.args.m < length (state_of c.args.self.now).moves = open_low (base_of c.args.self.now) (state_of c.args.self.now) c.args.m c.requires in
     let n : length (state_of c.args.self.now).moves ≡ c.args.self.now.noted = noted_long c.args.self.now in
     let few : c.args.self.now.noted ≤ 128 = (sound_of c.args.self.now).noted_inside in
@@ -37,8 +37,8 @@ bounds-self-m c =
     let few : c.args.self.now.noted ≤ 128 = (sound_of c.args.self.now).noted_inside in
     omega arith
 
-pub invariant-of-self : goal.invariant-of-self
-invariant-of-self c =
+pub invariant_of-self : goal.invariant_of-self
+invariant_of-self c =
     let k = c.args.self.now in
     let m = c.args.m in
     let low : m < length (state_of k).moves = open_low (base_of c.args.self.now) (state_of c.args.self.now) c.args.m c.requires in

@@ -11,14 +11,14 @@ use Rattle.kept.proofs.Rows.{no_row}
 use Rattle.kept.proofs.kept.Kept.closed_moves.Goals as goal
 use Rattle.kept.proofs.kept.Kept.closed_moves.Goals.{then-waits, else-waits}
 
-pub offset-bounds-self-m : goal.offset-bounds-self-m
-offset-bounds-self-m c = let few : c.args.self.now.noted ≤ 128 = (sound_of c.args.self.now).noted_inside in omega arith
+pub offset_bounds-self-m : goal.offset_bounds-self-m
+offset_bounds-self-m c = let few : c.args.self.now.noted ≤ 128 = (sound_of c.args.self.now).noted_inside in omega arith
 
 pub bounds-self-m : goal.bounds-self-m
 bounds-self-m c = let few : c.args.self.now.noted ≤ 128 = (sound_of c.args.self.now).noted_inside in omega arith
 
-pub offset-bounds-moves-m : goal.offset-bounds-moves-m
-offset-bounds-moves-m c = let few : c.args.self.now.noted ≤ 128 = (sound_of c.args.self.now).noted_inside in omega arith
+pub offset_bounds-moves-m : goal.offset_bounds-moves-m
+offset_bounds-moves-m c = let few : c.args.self.now.noted ≤ 128 = (sound_of c.args.self.now).noted_inside in omega arith
 
 pub bounds-moves-m : goal.bounds-moves-m
 bounds-moves-m c = let few : c.args.self.now.noted ≤ 128 = (sound_of c.args.self.now).noted_inside in omega arith
@@ -30,11 +30,11 @@ loop-m-preserved c =
     let low : m < k.noted = c.loop-m-test.true in
     let inside : m < length k.moves = move_inside k m low in
     elim c.if-waits.branch [
-      | then-waits w ↦ closed_at (state_of k).table c.args.v k.moves _ _ (m) w.moves_is
+      | then-waits w ↦ closed_at (state_of k).table c.args.v k.moves _ _ (m) w.moves-is
           (close_this (state_of k).table c.args.v k.moves c.loop-m.moves m inside c.loop-m.invariant w.closed.result
           (λ d. sym (ap (waits (state_of k).table c.args.v) (move_is k m d low)) ∙ sym w.if-waits.ensures)
           (λ d. w.closed.ensures ∙ ap (λ (row : Move). closed (move_of row)) (get_or_default k.moves m no_row d inside)))
-      | else-waits w ↦ closed_at (state_of k).table c.args.v k.moves _ _ (m) w.moves_is
+      | else-waits w ↦ closed_at (state_of k).table c.args.v k.moves _ _ (m) w.moves-is
           (pass_this (state_of k).table c.args.v k.moves c.loop-m.moves m inside c.loop-m.invariant
           (λ d. sym (ap (waits (state_of k).table c.args.v) (move_is k m d low)) ∙ sym w.if-waits.ensures))
     ]

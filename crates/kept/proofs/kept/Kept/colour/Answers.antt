@@ -17,11 +17,11 @@ returns-then-table-lt512 c =
     let o = sym (outcome_colour (base_of k) (state_of k) n ∙ colour_short k n c.if-table-lt512.true) in
     record { answer = o; state = refused_leaves (base_of k) (state_of k) (colour n) 2 o; table = refl }
 
-pub returns-then-any-loose : goal.returns-then-any-loose
-returns-then-any-loose c =
+pub returns-then-any_loose : goal.returns-then-any_loose
+returns-then-any_loose c =
     let k = c.args.self.now in
     let n = length c.args.table.now in
-    let o = sym (outcome_colour (base_of k) (state_of k) n ∙ colour_early k n c.if-table-lt512.false (sym c.if-any-loose.ensures)) in
+    let o = sym (outcome_colour (base_of k) (state_of k) n ∙ colour_early k n c.if-table-lt512.false (sym c.if-any_loose.ensures)) in
     record { answer = o; state = refused_leaves (base_of k) (state_of k) (colour n) 18 o; table = refl }
 
 pub paint-groups-requires : goal.paint-groups-requires
@@ -31,7 +31,7 @@ pub returns : goal.returns
 returns c =
     let k = c.args.self.now in
     let n = length c.args.table.now in
-    let o = sym (outcome_colour (base_of k) (state_of k) n ∙ colour_granted k n c.if-table-lt512.false (sym c.if-any-loose.ensures)) in
+    let o = sym (outcome_colour (base_of k) (state_of k) n ∙ colour_granted k n c.if-table-lt512.false (sym c.if-any_loose.ensures)) in
     record {
       answer = o;
       state = coloured_leaves (base_of k) (state_of k) (colour n) _ o;

@@ -10,38 +10,38 @@ use Rattle.kept.proofs.Facts.{sound_of, some_room}
 use Rattle.kept.proofs.Verdicts.{granted_leaves, refused_leaves}
 use Rattle.kept.proofs.kept.Kept.freeze.Goals as goal
 
-pub invariant-of-self : goal.invariant-of-self
-invariant-of-self c =
+pub invariant_of-self : goal.invariant_of-self
+invariant_of-self c =
     let k = c.args.self.now in
     let v = c.args.v in
-    let says = ap (λ x. at_vertex (base_of k) (state_of k) v (cond x (frozen v) (refused 17))) c.may-freeze.ensures ∙ sym (outcome_freeze (base_of k) (state_of k) v) in
+    let says = ap (λ x. at_vertex (base_of k) (state_of k) v (cond x (frozen v) (refused 17))) c.may_freeze.ensures ∙ sym (outcome_freeze (base_of k) (state_of k) v) in
     let o = c.in-Ok.ensures (frozen v) ∙ says in
     let g = granted_on k (freeze v) (frozen v) o in
-    let state = frozen_state k v c.closed-moves-moves.result c.closed-moves-moves.ensures.each in
-    record { sound = ∣ moves_sound k c.closed-moves-moves.result (frozen v) c.closed-moves-moves.ensures.whole state (frozen_stays k v) g ∣₁ }
+    let state = frozen_state k v c.closed_moves-moves.result c.closed_moves-moves.ensures.each in
+    record { sound = ∣ moves_sound k c.closed_moves-moves.result (frozen v) c.closed_moves-moves.ensures.whole state (frozen_stays k v) g ∣₁ }
 
 pub returns-in-Ok : goal.returns-in-Ok
 unfolding base_of state_of
 returns-in-Ok c =
     let k = c.args.self.now in
     let v = c.args.v in
-    let says = ap (λ x. at_vertex (base_of k) (state_of k) v (cond x (frozen v) (refused 17))) c.may-freeze.ensures ∙ sym (outcome_freeze (base_of k) (state_of k) v) in
+    let says = ap (λ x. at_vertex (base_of k) (state_of k) v (cond x (frozen v) (refused 17))) c.may_freeze.ensures ∙ sym (outcome_freeze (base_of k) (state_of k) v) in
     let o = c.in-Ok.ensures (frozen v) ∙ says in
     let g = granted_on k (freeze v) (frozen v) o in
-    let state = frozen_state k v c.closed-moves-moves.result c.closed-moves-moves.ensures.each in
+    let state = frozen_state k v c.closed_moves-moves.result c.closed_moves-moves.ensures.each in
     record {
       answer = c.verdict-verdict.ensures (frozen v) ∙ says;
       base = refl;
       state = state ∙ granted_leaves (base_of k) (state_of k) (freeze v) (frozen v) o;
     }
 
-pub returns-in-default : goal.returns-in-default
-returns-in-default c =
+pub returns-in_default : goal.returns-in_default
+returns-in_default c =
     let k = c.args.self.now in
     let v = c.args.v in
-    let says = ap (λ x. at_vertex (base_of k) (state_of k) v (cond x (frozen v) (refused 17))) c.may-freeze.ensures ∙ sym (outcome_freeze (base_of k) (state_of k) v) in
+    let says = ap (λ x. at_vertex (base_of k) (state_of k) v (cond x (frozen v) (refused 17))) c.may_freeze.ensures ∙ sym (outcome_freeze (base_of k) (state_of k) v) in
     record {
       answer = c.verdict-verdict.ensures (frozen v) ∙ says;
       base = refl;
-      state = refused_leaves (base_of k) (state_of k) (freeze v) _ (c.in-default.ensures (frozen v) ∙ says);
+      state = refused_leaves (base_of k) (state_of k) (freeze v) _ (c.in_default.ensures (frozen v) ∙ says);
     }

@@ -7,8 +7,8 @@ use Rattle.kept.proofs.Facts.{stands_small}
 use Rattle.kept.proofs.Verdicts.{granted_leaves, refused_leaves}
 use Rattle.kept.proofs.kept.Kept.mark.Goals as goal
 
-pub invariant-of-self : goal.invariant-of-self
-invariant-of-self c =
+pub invariant_of-self : goal.invariant_of-self
+invariant_of-self c =
     let k = c.args.self.now in
     let v = c.args.v in
     let o = c.in-Ok.ensures (marked v) ∙ sym (outcome_mark (base_of k) (state_of k) v) in
@@ -28,12 +28,12 @@ returns-in-Ok c =
       state = marked_state k v c.insert.new.self (stands_small k v g) c.insert.ensures.after ∙ granted_leaves (base_of k) (state_of k) (mark v) (marked v) o;
     }
 
-pub returns-in-default : goal.returns-in-default
-returns-in-default c =
+pub returns-in_default : goal.returns-in_default
+returns-in_default c =
     let k = c.args.self.now in
     let v = c.args.v in
     record {
       answer = c.verdict-verdict.ensures (marked v) ∙ sym (outcome_mark (base_of k) (state_of k) v);
       base = refl;
-      state = refused_leaves (base_of k) (state_of k) (mark v) _ (c.in-default.ensures (marked v) ∙ sym (outcome_mark (base_of k) (state_of k) v));
+      state = refused_leaves (base_of k) (state_of k) (mark v) _ (c.in_default.ensures (marked v) ∙ sym (outcome_mark (base_of k) (state_of k) v));
     }

@@ -5,8 +5,8 @@ use Rattle.kept.specs.Kept.{base_of, state_of}
 use Rattle.kept.proofs.Opening.{opened_state, opened_kept}
 use Rattle.kept.proofs.kept.Kept.new.Goals as goal
 
-pub invariant-of-result : goal.invariant-of-result
-invariant-of-result c = record { sound = ∣ opened_kept c.args.standing _ c.new.result c.requires c.new.ensures ∣₁ }
+pub invariant_of-result : goal.invariant_of-result
+invariant_of-result c = record { sound = ∣ opened_kept c.args.standing _ c.new.result c.requires c.new.ensures ∣₁ }
 
 pub returns : goal.returns
 unfolding base_of state_of

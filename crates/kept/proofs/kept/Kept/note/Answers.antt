@@ -27,8 +27,8 @@ returns-then-m-ge128 c =
     let o = sym (outcome_note (base_of k) (state_of k) c.args.u c.args.v ∙ note_full k c.args.u c.args.v c.size-n.result c.stands.result c.stands-2.result c.size-n.ensures c.stands.ensures c.stands-2.ensures c.if-u-n.false c.if-not-stands.false c.if-m-ge128.true) in
     record { answer = o; base = refl; state = refused_leaves (base_of k) (state_of k) (note c.args.u c.args.v) 16 o }
 
-pub invariant-of-self : goal.invariant-of-self
-invariant-of-self c =
+pub invariant_of-self : goal.invariant_of-self
+invariant_of-self c =
     let k = c.args.self.now in
     let u = c.args.u in
     let v = c.args.v in

@@ -10,11 +10,11 @@ use Rattle.kept.proofs.Facts.{sound_of, some_room}
 use Rattle.kept.proofs.Verdicts.{granted_leaves, refused_leaves}
 use Rattle.kept.proofs.kept.Kept.simplify.Goals as goal
 
-pub overflow-sub-top : goal.overflow-sub-top
-overflow-sub-top c =
+pub overflow_sub-top : goal.overflow_sub-top
+overflow_sub-top c =
     let k = c.args.self.now in
     let v = c.args.v in
-    let says = ap (λ x. at_vertex (base_of k) (state_of k) v (cond x (simplified v) (refused 17))) c.may-simplify.ensures ∙ sym (outcome_simplify (base_of k) (state_of k) v) in
+    let says = ap (λ x. at_vertex (base_of k) (state_of k) v (cond x (simplified v) (refused 17))) c.may_simplify.ensures ∙ sym (outcome_simplify (base_of k) (state_of k) v) in
     let o = c.in-Ok.ensures (simplified v) ∙ says in
     let g = granted_on k (simplify v) (simplified v) o in
     let stood : (standing_graph (base_of k) (state_of k)).stands v ≡ true = (and_parts _ (not (fixed (base_of k) v)) g.stays_loose).0 in
@@ -22,11 +22,11 @@ overflow-sub-top c =
     let most : k.top ≤ 512 = (sound_of k).top_inside in
     omega arith
 
-pub offset-bounds-self-top : goal.offset-bounds-self-top
-offset-bounds-self-top c =
+pub offset_bounds-self-top : goal.offset_bounds-self-top
+offset_bounds-self-top c =
     let k = c.args.self.now in
     let v = c.args.v in
-    let says = ap (λ x. at_vertex (base_of k) (state_of k) v (cond x (simplified v) (refused 17))) c.may-simplify.ensures ∙ sym (outcome_simplify (base_of k) (state_of k) v) in
+    let says = ap (λ x. at_vertex (base_of k) (state_of k) v (cond x (simplified v) (refused 17))) c.may_simplify.ensures ∙ sym (outcome_simplify (base_of k) (state_of k) v) in
     let o = c.in-Ok.ensures (simplified v) ∙ says in
     let g = granted_on k (simplify v) (simplified v) o in
     let stood : (standing_graph (base_of k) (state_of k)).stands v ≡ true = (and_parts _ (not (fixed (base_of k) v)) g.stays_loose).0 in
@@ -38,7 +38,7 @@ pub bounds-self-top : goal.bounds-self-top
 bounds-self-top c =
     let k = c.args.self.now in
     let v = c.args.v in
-    let says = ap (λ x. at_vertex (base_of k) (state_of k) v (cond x (simplified v) (refused 17))) c.may-simplify.ensures ∙ sym (outcome_simplify (base_of k) (state_of k) v) in
+    let says = ap (λ x. at_vertex (base_of k) (state_of k) v (cond x (simplified v) (refused 17))) c.may_simplify.ensures ∙ sym (outcome_simplify (base_of k) (state_of k) v) in
     let o = c.in-Ok.ensures (simplified v) ∙ says in
     let g = granted_on k (simplify v) (simplified v) o in
     let stood : (standing_graph (base_of k) (state_of k)).stands v ≡ true = (and_parts _ (not (fixed (base_of k) v)) g.stays_loose).0 in
@@ -46,11 +46,11 @@ bounds-self-top c =
     let most : k.top ≤ 512 = (sound_of k).top_inside in
     omega arith
 
-pub invariant-of-self : goal.invariant-of-self
-invariant-of-self c =
+pub invariant_of-self : goal.invariant_of-self
+invariant_of-self c =
     let k = c.args.self.now in
     let v = c.args.v in
-    let says = ap (λ x. at_vertex (base_of k) (state_of k) v (cond x (simplified v) (refused 17))) c.may-simplify.ensures ∙ sym (outcome_simplify (base_of k) (state_of k) v) in
+    let says = ap (λ x. at_vertex (base_of k) (state_of k) v (cond x (simplified v) (refused 17))) c.may_simplify.ensures ∙ sym (outcome_simplify (base_of k) (state_of k) v) in
     let o = c.in-Ok.ensures (simplified v) ∙ says in
     let g = granted_on k (simplify v) (simplified v) o in
     let stood : (standing_graph (base_of k) (state_of k)).stands v ≡ true = (and_parts _ (not (fixed (base_of k) v)) g.stays_loose).0 in
@@ -63,7 +63,7 @@ unfolding base_of state_of
 returns-in-Ok c =
     let k = c.args.self.now in
     let v = c.args.v in
-    let says = ap (λ x. at_vertex (base_of k) (state_of k) v (cond x (simplified v) (refused 17))) c.may-simplify.ensures ∙ sym (outcome_simplify (base_of k) (state_of k) v) in
+    let says = ap (λ x. at_vertex (base_of k) (state_of k) v (cond x (simplified v) (refused 17))) c.may_simplify.ensures ∙ sym (outcome_simplify (base_of k) (state_of k) v) in
     let o = c.in-Ok.ensures (simplified v) ∙ says in
     let g = granted_on k (simplify v) (simplified v) o in
     let stood : (standing_graph (base_of k) (state_of k)).stands v ≡ true = (and_parts _ (not (fixed (base_of k) v)) g.stays_loose).0 in
@@ -75,13 +75,13 @@ returns-in-Ok c =
       state = simplified_state k v c.remove.new.self k.moves (k.top - 1) (omega arith) c.remove.ensures.base c.remove.ensures.board c.remove.ensures.left (sound_of k).whole_moves refl ∙ granted_leaves (base_of k) (state_of k) (simplify v) (simplified v) o;
     }
 
-pub returns-in-default : goal.returns-in-default
-returns-in-default c =
+pub returns-in_default : goal.returns-in_default
+returns-in_default c =
     let k = c.args.self.now in
     let v = c.args.v in
-    let says = ap (λ x. at_vertex (base_of k) (state_of k) v (cond x (simplified v) (refused 17))) c.may-simplify.ensures ∙ sym (outcome_simplify (base_of k) (state_of k) v) in
+    let says = ap (λ x. at_vertex (base_of k) (state_of k) v (cond x (simplified v) (refused 17))) c.may_simplify.ensures ∙ sym (outcome_simplify (base_of k) (state_of k) v) in
     record {
       answer = c.verdict-verdict.ensures (simplified v) ∙ says;
       base = refl;
-      state = refused_leaves (base_of k) (state_of k) (simplify v) _ (c.in-default.ensures (simplified v) ∙ says);
+      state = refused_leaves (base_of k) (state_of k) (simplify v) _ (c.in_default.ensures (simplified v) ∙ says);
     }

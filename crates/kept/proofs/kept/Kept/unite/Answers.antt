@@ -11,8 +11,8 @@ use Rattle.kept.proofs.Moving.{closed_one}
 use Rattle.kept.proofs.Uniting.{ends_are, at_names, two_groups, merged_state, merged_sound}
 use Rattle.kept.proofs.kept.Kept.unite.Goals as goal
 
-pub offset-bounds-moves-m : goal.offset-bounds-moves-m
-offset-bounds-moves-m c =
+pub offset_bounds-moves-m : goal.offset_bounds-moves-m
+offset_bounds-moves-m c =
     let low : c.args.m < length (state_of c.args.self.now).moves = c.requires.is_open.is_noted in
     let n : length (state_of c.args.self.now).moves ≡ c.args.self.now.noted = noted_long c.args.self.now in
     let few : c.args.self.now.noted ≤ 128 = (sound_of c.args.self.now).noted_inside in
@@ -25,8 +25,8 @@ bounds-moves-m c =
     let few : c.args.self.now.noted ≤ 128 = (sound_of c.args.self.now).noted_inside in
     omega arith
 
-pub offset-bounds-self-m : goal.offset-bounds-self-m
-offset-bounds-self-m c =
+pub offset_bounds-self-m : goal.offset_bounds-self-m
+offset_bounds-self-m c =
     let low : c.args.m < length (state_of c.args.self.now).moves = c.requires.is_open.is_noted in
     let n : length (state_of c.args.self.now).moves ≡ c.args.self.now.noted = noted_long c.args.self.now in
     let few : c.args.self.now.noted ≤ 128 = (sound_of c.args.self.now).noted_inside in
@@ -53,8 +53,8 @@ unite-requires c =
     let max-is : c.max.result ≡ max ((state_of k).table u) ((state_of k).table v) = c.max.ensures ∙ ap₂ max ends.0 ends.1 in
     at_names (board_of k.standing) _ _ _ _ min-is max-is (two_groups k m u v c.requires)
 
-pub invariant-of-self : goal.invariant-of-self
-invariant-of-self c =
+pub invariant_of-self : goal.invariant_of-self
+invariant_of-self c =
     let k = c.args.self.now in
     let m = c.args.m in
     let u = (move_at (state_of k) m).one in
@@ -66,9 +66,11 @@ invariant-of-self c =
     let min-is : c.min.result ≡ min ((state_of k).table u) ((state_of k).table v) = c.min.ensures ∙ ap₂ min ends.0 ends.1 in
     let max-is : c.max.result ≡ max ((state_of k).table u) ((state_of k).table v) = c.max.ensures ∙ ap₂ max ends.0 ends.1 in
     let rows = closed_one k m c.closed.result low-k c.closed.ensures in
-    let whole = length-set k.moves m c.closed.result ∙ (sound_of k).whole_moves in record { sound = ∣ merged_sound k m u v c.requires c.unite.new.self (set k.moves m c.closed.result) c.unite.ensures.base
+    let whole = length-set k.moves m c.closed.result ∙ (sound_of k).whole_moves in record {
+      sound = ∣ merged_sound k m u v c.requires c.unite.new.self (set k.moves m c.closed.result) c.unite.ensures.base
           (c.unite.ensures.table ∙ ap₂ (united (table_of (board_of k.standing))) max-is min-is)
-          (λ w. c.unite.ensures.left w ∙ ap (λ (y : ℕ). is_left k.standing w && not (eqb w y)) max-is) whole rows ∣₁ }
+          (λ w. c.unite.ensures.left w ∙ ap (λ (y : ℕ). is_left k.standing w && not (eqb w y)) max-is) whole rows ∣₁;
+    }
 
 pub returns : goal.returns
 unfolding base_of state_of

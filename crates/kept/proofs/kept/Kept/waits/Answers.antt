@@ -5,8 +5,8 @@ use Rattle.kept.specs.Kept.{base_of, state_of}
 use Rattle.kept.proofs.Facts.{sound_of, move_is}
 use Rattle.kept.proofs.kept.Kept.waits.Goals as goal
 
-pub offset-bounds-self-m : goal.offset-bounds-self-m
-offset-bounds-self-m c = let few : c.args.self.now.noted ≤ 128 = (sound_of c.args.self.now).noted_inside in omega arith
+pub offset_bounds-self-m : goal.offset_bounds-self-m
+offset_bounds-self-m c = let few : c.args.self.now.noted ≤ 128 = (sound_of c.args.self.now).noted_inside in omega arith
 
 pub bounds-self-m : goal.bounds-self-m
 bounds-self-m c = let few : c.args.self.now.noted ≤ 128 = (sound_of c.args.self.now).noted_inside in omega arith

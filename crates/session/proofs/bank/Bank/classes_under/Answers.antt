@@ -16,8 +16,8 @@ loop-v-preserved c =
     let classes = c.args.classes.now in
     let v = c.loop-v.v in
     let long : length c.loop-v.under ≡ 512 = c.loop-v.invariant.0 in
-    set_more (classes_under b (class_at classes)) (class_at classes) None c.loop-v.under v c.class-at.result c.loop-v-test.true
-    (c.class-at.ensures ∙ ap (λ (x : Option Class). classes_under b (λ _. x) v) (c.loop-v.invariant.2 v (omega arith))) c.loop-v.invariant
+    set_more (classes_under b (class_at classes)) (class_at classes) None c.loop-v.under v c.class_at.result c.loop-v-test.true
+    (c.class_at.ensures ∙ ap (λ (x : Option Class). classes_under b (λ _. x) v) (c.loop-v.invariant.2 v (omega arith))) c.loop-v.invariant
 
 pub returns : goal.returns
 returns c =

@@ -17,7 +17,7 @@ loop-v-init c = (
 )
 
 pub loop-v-preserved : goal.loop-v-preserved
-loop-v-preserved c = set_more (is_register (bank_of c.args.self)) (λ _. false) false c.loop-v.flags c.loop-v.v c.is-register.result c.loop-v-test.true c.is-register.ensures c.loop-v.invariant
+loop-v-preserved c = set_more (is_register (bank_of c.args.self)) (λ _. false) false c.loop-v.flags c.loop-v.v c.is_register.result c.loop-v-test.true c.is_register.ensures c.loop-v.invariant
 
 pub returns : goal.returns
 returns c = set_all (is_register (bank_of c.args.self)) (λ _. false) false c.loop-v.flags c.loop-v.v c.loop-v-test.false c.loop-v.invariant (λ w h. no_register c.args.self w (omega arith))

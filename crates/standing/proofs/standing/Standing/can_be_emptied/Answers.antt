@@ -23,8 +23,8 @@ pub loop-turn-preserved : goal.loop-turn-preserved
 loop-turn-preserved c =
     let s = c.args.self.now in (
       c.loop-turn.invariant.0,
-      one_less (fixed_in s) (registers_of s) (graph_of s) c.size-n.result c.loop-turn.-turn (has c.loop-turn.rest) (has c.without-light-rest.result)
-          c.loop-turn-test.true (fun_ext c.without-light-rest.ensures) ∙ c.loop-turn.invariant.1,
+      one_less (fixed_in s) (registers_of s) (graph_of s) c.size-n.result c.loop-turn._turn (has c.loop-turn.rest) (has c.without_light-rest.result)
+          c.loop-turn-test.true (fun_ext c.without_light-rest.ensures) ∙ c.loop-turn.invariant.1,
     )
 
 pub returns : goal.returns
@@ -32,17 +32,17 @@ unfolding empties
 returns c =
     let s = c.args.self.now in
     let n : c.size-n.result ≡ (graph_of s).size = c.loop-turn.invariant.0 in
-    let none : c.size-n.result - c.loop-turn.-turn ≡ 0 = omega arith in
+    let none : c.size-n.result - c.loop-turn._turn ≡ 0 = omega arith in
     let left : has c.loop-turn.rest ≡ left_of (fixed_in s) (registers_of s) (graph_of s) (graph_of s).size (loose_in s) =
     sym (ap (λ (k : ℕ). left_of (fixed_in s) (registers_of s) (graph_of s) k (has c.loop-turn.rest)) none) ∙
     (c.loop-turn.invariant.1 ∙ ap (λ (k : ℕ). left_of (fixed_in s) (registers_of s) (graph_of s) k (loose_in s)) n) in
-    let is : c.is-empty.result ≡ not (any (left_of (fixed_in s) (registers_of s) (graph_of s) (graph_of s).size (loose_in s)) (graph_of s).size) =
-    subst (λ (r : ℕ → Bool). c.is-empty.result ≡ not (any r (graph_of s).size)) left
-    (none_there (has c.loop-turn.rest) (graph_of s).size c.is-empty.result c.is-empty.ensures.none c.is-empty.ensures.some
+    let is : c.is_empty.result ≡ not (any (left_of (fixed_in s) (registers_of s) (graph_of s) (graph_of s).size (loose_in s)) (graph_of s).size) =
+    subst (λ (r : ℕ → Bool). c.is_empty.result ≡ not (any r (graph_of s).size)) left
+    (none_there (has c.loop-turn.rest) (graph_of s).size c.is_empty.result c.is_empty.ensures.none c.is_empty.ensures.some
     (λ k h. (graph_lawful s).inside k (and_parts ((graph_of s).stands k) _
     (left_in (fixed_in s) (registers_of s) (graph_of s) (graph_of s).size (loose_in s) k (sym (ap (λ (r : ℕ → Bool). r k) left) ∙ h))).0)) in
     record {
-      by-peeling = is;
+      by_peeling = is;
       exactly = let d = empties_decides (fixed_in s) (registers_of s) (graph_of s) (graph_lawful s) in
           (λ e. d.0 (sym is ∙ e), λ e. is ∙ d.1 e);
     }

@@ -4,9 +4,9 @@ use Rattle.standing.proofs.Shapes.{bank_small}
 use Rattle.standing.proofs.Tests.{bank_test}
 use Rattle.standing.proofs.standing.Standing.fixed.Goals as goal
 
-pub overflow-add-self : goal.overflow-add-self
+pub overflow_add-self : goal.overflow_add-self
 unfolding base_of
-overflow-add-self c = let small : c.args.self.now.first + c.args.self.now.registers ≤ 32 = bank_small c.args.self.now in omega arith
+overflow_add-self c = let small : c.args.self.now.first + c.args.self.now.registers ≤ 32 = bank_small c.args.self.now in omega arith
 
 pub returns : goal.returns
 unfolding base_of

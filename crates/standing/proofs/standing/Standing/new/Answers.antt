@@ -3,11 +3,13 @@ use Rattle.std.proofs.lemmas.Bool.{and_from, eq-eqb}
 use Rattle.standing.specs.Standing.{base_of, board_of, is_left}
 use Rattle.standing.proofs.standing.Standing.new.Goals as goal
 
-pub invariant-of-result : goal.invariant-of-result
-invariant-of-result c = record { sound = ∣ record {
+pub invariant_of-result : goal.invariant_of-result
+invariant_of-result c = record {
+  sound = ∣ record {
     base = c.requires.0;
     inside = λ v h. and_from _ _ (sym (c.vertices-left.ensures v) ∙ h) (eq-eqb _ _ (ap (λ (t : ℕ → ℕ). t v) c.requires.1));
-  } ∣₁ }
+  } ∣₁;
+}
 
 pub returns : goal.returns
 unfolding base_of board_of is_left

@@ -10,16 +10,18 @@ pub unite-requires : goal.unite-requires
 unfolding board_of
 unite-requires c = c.requires
 
-pub invariant-of-self : goal.invariant-of-self
+pub invariant_of-self : goal.invariant_of-self
 unfolding board_of
-invariant-of-self c =
+invariant_of-self c =
     let was = told_standing _ _ _ _ c.args.self.now.sound in
-    let old = c.args.self.now.board in record { sound = ∣ record {
+    let old = c.args.self.now.board in record {
+      sound = ∣ record {
         base = base_kept old c.unite.new.self _ _ c.unite.ensures.graph was.base;
         inside = λ v h.
             let p = and_parts _ _ (sym (c.remove.ensures v) ∙ h) in
             still_inside old c.unite.new.self c.args.low c.args.high v c.requires c.unite.ensures.graph c.unite.ensures.table (was.inside v p.0) p.1;
-      } ∣₁ }
+      } ∣₁;
+    }
 
 pub returns : goal.returns
 unfolding base_of board_of is_left
