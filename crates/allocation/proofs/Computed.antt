@@ -1,6 +1,5 @@
 -- The worked formulas, computed. Assumes nothing.
 use Rattle.std.proofs.Common.{◌≡◌, refl}
-use Rattle.code.specs.Rows.{Fields}
 use Rattle.liveness.specs.Flow.{reads, sets, follows}
 use Rattle.liveness.specs.Families.{ahead}
 use Rattle.liveness.specs.Joins.{moves}

@@ -1,19 +1,19 @@
 -- A session that was driven to its end: it is a run of calls, and where the graph could be emptied, everything got a register.
 -- Assumes nothing.
-use Rattle.std.proofs.Common.{◌≡◌, ℕ, zero, suc, ◌+◌, ◌<◌, ◌≤◌, Bool, true, false, not, ◌&&◌, eqb, ltb, leb, List, [], ◌∷◌, ◌++◌, length, Some, None, Option, sym, refl, ap, ◌∙◌, inl, inr, arith}
+use Rattle.std.proofs.Common.{◌≡◌, ℕ, zero, suc, ◌+◌, ◌<◌, ◌≤◌, true, false, eqb, ltb, leb, List, [], ◌∷◌, ◌++◌, length, Some, None, Option, sym, refl, ap, ◌∙◌, inl, inr, arith}
 use Rattle.std.proofs.lemmas.Bool.{cases_Bool, false≢true, and_parts, and_left, and_right, ne_eqb, ltb-true}
-use Rattle.graph.specs.Counting.{count, any, first}
+use Rattle.graph.specs.Counting.{any}
 use Rattle.graph.proofs.Counting.{first_missed, count_none, any_witness}
 use Rattle.session_laws.specs.Bank.{among}
 use Rattle.session_laws.specs.Base.{Opening, Base, SoundBase, base_of}
 use Rattle.session_laws.specs.State.{State, opened, standing_graph, is_loose, has_pending, Emptiable}
-use Rattle.session_laws.specs.Calls.{Call, Outcome, simplify, freeze, push, merge, simplified, frozen, pushed}
+use Rattle.session_laws.specs.Calls.{Call, simplify, freeze, push, merge}
 use Rattle.session_laws.specs.Colouring.{register_of}
 use Rattle.session_laws.specs.Grounds.{ColouredOn}
 use Rattle.session_laws.specs.Invariants.{SoundState, AllLight}
 use Rattle.session_laws.specs.Laws.{Proper}
-use Rattle.session_laws.specs.Outcomes.{outcome, least_bytes}
-use Rattle.session_laws.specs.Runs.{called, after, outcomes}
+use Rattle.session_laws.specs.Outcomes.{least_bytes}
+use Rattle.session_laws.specs.Runs.{after}
 use Rattle.session_laws.proofs.Colours.{colour_complete}
 use Rattle.session_laws.proofs.Exactness.{grants}
 use Rattle.session_laws.proofs.Laws.{runs_keep}

@@ -1,5 +1,5 @@
 -- How a session is driven: the first call that is granted, again and again, until none is. Assumes nothing.
-use Rattle.std.specs.Prelude.{ℕ, zero, suc, ◌+◌, Bool, true, false, cond, ◌&&◌, List, [], ◌∷◌, length, Some, None, Option}
+use Rattle.std.specs.Prelude.{ℕ, zero, suc, ◌+◌, Bool, true, false, cond, ◌&&◌, length, Some, None, Option}
 use Rattle.graph.specs.Counting.{first}
 use Rattle.session_laws.specs.Base.{Base}
 use Rattle.session_laws.specs.State.{State}

@@ -1,5 +1,5 @@
 -- What a list of pairs makes of a graph. Assumes nothing.
-use Rattle.std.specs.Prelude.{◌≡◌, ℕ, Bool, true, false, ◌⊎◌, List, [], ◌∷◌, ◌==◌}
+use Rattle.std.specs.Prelude.{◌≡◌, ℕ, true, false, ◌⊎◌, List, [], ◌∷◌, ◌==◌}
 use Rattle.graph.specs.Shape.{Shape}
 use Rattle.allocation.specs.Interference.{Edge}
 

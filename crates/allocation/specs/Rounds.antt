@@ -1,5 +1,5 @@
 -- Allocation: rounds of colouring both classes, spilling what finds no register, until everything does. Assumes nothing.
-use Rattle.std.specs.Prelude.{ℕ, zero, suc, ◌+◌, ◌-◌, ◌/◌, ◌%◌, ◌^◌, Bool, true, false, cond, ◌&&◌, ◌||◌, List, length, Some, None, Ok, Err, Option, Result, ◌==◌, nat_le, nat_lt}
+use Rattle.std.specs.Prelude.{ℕ, zero, suc, ◌+◌, ◌-◌, ◌/◌, ◌%◌, ◌^◌, cond, ◌&&◌, ◌||◌, List, length, Some, None, Ok, Err, Option, Result, ◌==◌, nat_le, nat_lt}
 use Rattle.code.specs.Codes.{moves_in}
 use Rattle.code.specs.Rows.{Fields}
 use Rattle.formula.specs.Formulas.{Formula}
@@ -11,10 +11,9 @@ use Rattle.graph.specs.declared.refusal.Refusal.{Refusal}
 use Rattle.session_laws.specs.Bank.{Bank}
 use Rattle.session_laws.specs.Base.{Base, base_of}
 use Rattle.session_laws.specs.Colouring.{register_of}
-use Rattle.session_laws.specs.State.{State}
 use Rattle.allocation.specs.Driving.{Policy, Run}
 use Rattle.allocation.specs.Finishing.{final_rows, code_bytes}
-use Rattle.allocation.specs.Interference.{Filled, filled, edges_of}
+use Rattle.allocation.specs.Interference.{filled, edges_of}
 use Rattle.allocation.specs.Rewriting.{rewritten, all_made, carried}
 use Rattle.allocation.specs.Sessions.{Stage, opening_for, run_of, stuck, spilled, slot_from}
 

@@ -7,7 +7,7 @@ use Rattle.graph.specs.Shape.{Meaning}
 use Rattle.graph.specs.Stores.{empty_store}
 use Rattle.allocation.specs.Costs.{uses, by_cost}
 use Rattle.allocation.specs.Driving.{Policy}
-use Rattle.allocation.specs.Rounds.{Verdict, refused, done, allocation}
+use Rattle.allocation.specs.Rounds.{refused, done, allocation}
 
 -- a fresh store of n vertices with room for every pair
 abbrev pub roomy : ℕ → Meaning

@@ -1,7 +1,6 @@
 -- Counting in sets, as numbers does it, and in graphs. Assumes nothing.
-use Rattle.std.proofs.Common.{◌≡◌, ℕ, zero, suc, ◌+◌, ◌-◌, ◌<◌, ◌≤◌, Bool, true, false, cond, ◌||◌, sym, refl, ap, ◌∙◌, inl, inr, arith}
-use Rattle.std.proofs.lemmas.Bool.{cases_Bool, cases_lt, both_ways}
-use Rattle.graph.specs.Counting.{count, any}
+use Rattle.std.proofs.Common.{◌≡◌, ℕ, zero, suc, ◌+◌, ◌-◌, ◌<◌, ◌≤◌, Bool, false, cond, refl, ap, ◌∙◌, arith}
+use Rattle.graph.specs.Counting.{count}
 use Rattle.graph.proofs.Counting.{count_split, count_none}
 use Rattle.numbers.specs.Counting.{count as set_count}
 

@@ -1,6 +1,5 @@
 -- Reading and writing rows. Assumes nothing.
-use Rattle.std.proofs.Common.{◌≡◌, ℕ, zero, suc, ◌<◌, ◌≤◌, Bool, true, false, List, [], ◌∷◌, length, get_or, set, sym, refl, ap, ◌∙◌, inl, inr, arith}
-use Rattle.std.proofs.lemmas.Bool.{cases_lt, cases_eq, both_ways, false≢true}
+use Rattle.std.proofs.Common.{◌≡◌, ℕ, zero, suc, ◌<◌, ◌≤◌, false, List, [], ◌∷◌, length, get_or, set, refl, ap, arith}
 use Rattle.numbers.specs.Sets.{has}
 use Rattle.numbers.specs.declared.number_set.NumberSet.{NumberSet}
 use Rattle.board.specs.Rows.{row_has}

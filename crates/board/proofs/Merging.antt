@@ -1,12 +1,12 @@
 -- Rows after a merge are the rows of the merged graph. Assumes nothing.
-use Rattle.std.proofs.Common.{◌≡◌, ℕ, ◌<◌, ◌≤◌, min, max, Bool, true, false, not, ◌&&◌, ◌||◌, eqb, sym, refl, ap, ◌∙◌, inl, inr, arith}
+use Rattle.std.proofs.Common.{◌≡◌, ℕ, ◌<◌, Bool, true, false, not, ◌&&◌, ◌||◌, eqb, sym, refl, ◌∙◌, inl, inr, arith}
 use Rattle.std.proofs.lemmas.Bool.{cases_Bool, cases_eq, both_ways, eq-eqb, ne_eqb}
 use Rattle.graph.specs.Shape.{Shape, Lawful}
 use Rattle.graph.specs.Views.{merged_view}
 use Rattle.graph.proofs.Merging.{merged_is_view, same_test}
 use Rattle.session_laws.specs.Runs.{united}
 use Rattle.session_laws.proofs.Rows.{joined_others, joined_x, joined_y}
-use Rattle.session_laws.proofs.Standing.{Name, name_parts, meet_parts, meet_from}
+use Rattle.session_laws.proofs.Standing.{Name, meet_parts, meet_from}
 use Rattle.board.specs.Rows.{spread_to}
 
 or_true : (a : Bool) → (a || true) ≡ true

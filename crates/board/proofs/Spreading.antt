@@ -1,10 +1,10 @@
 -- A loop that changes one row after the other. Assumes nothing.
-use Rattle.std.proofs.Common.{◌≡◌, ℕ, ◌+◌, ◌<◌, ◌≤◌, Bool, true, false, cond, not, ◌&&◌, ◌||◌, eqb, List, length, set, sym, refl, ap, ◌∙◌, inl, inr, arith, length-set}
+use Rattle.std.proofs.Common.{◌≡◌, ℕ, ◌+◌, ◌<◌, ◌≤◌, Bool, true, false, not, ◌&&◌, ◌||◌, eqb, List, length, set, ap, ◌∙◌, inl, inr, arith, length-set}
 use Rattle.std.proofs.lemmas.Bool.{cases_lt, cases_eq, eq-eqb, ne_eqb}
 use Rattle.numbers.specs.Sets.{has}
 use Rattle.numbers.specs.declared.number_set.NumberSet.{NumberSet}
 use Rattle.board.specs.Rows.{row_has, spread_to, rows_merged}
-use Rattle.board.proofs.Lookup.{row_past, row_set_same, row_set_other}
+use Rattle.board.proofs.Lookup.{row_set_same, row_set_other}
 
 -- rows below w are changed, the others are as they were
 abbrev pub Spread : (ℕ → Bool) → ℕ → ℕ → (ℕ → ℕ → Bool) → List NumberSet → ℕ → Type 0

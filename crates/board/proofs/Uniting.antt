@@ -1,18 +1,17 @@
 -- A board after a merge. Assumes nothing.
-use Rattle.std.proofs.Common.{◌≡◌, ℕ, ◌<◌, ◌≤◌, min, max, Bool, true, false, cond, ◌&&◌, ◌||◌, eqb, ltb, List, length, sym, refl, ap, ◌∙◌, inl, inr, arith}
+use Rattle.std.proofs.Common.{◌≡◌, ℕ, ◌<◌, ◌≤◌, min, max, Bool, true, false, eqb, ltb, List, length, sym, ap, ◌∙◌, inl, inr, arith}
 use mathlib.Core.Path.{fun_ext}
 use Rattle.std.proofs.lemmas.Bool.{cases_eq, eq-eqb, ne_eqb, lt-ltb}
-use Rattle.graph.specs.Shape.{Shape, Lawful}
 use Rattle.graph.specs.Views.{merged_view}
 use Rattle.numbers.specs.declared.number_set.NumberSet.{NumberSet}
 use Rattle.views.specs.Groups.{group_at, merged_groups}
 use Rattle.session_laws.specs.Runs.{united}
 use Rattle.session_laws.proofs.Standing.{Name, name_parts}
-use Rattle.board.specs.Rows.{row_has, spread_to, rows_merged}
-use Rattle.board.specs.Sound.{snapshot, SoundBoard}
+use Rattle.board.specs.Rows.{row_has, rows_merged}
+use Rattle.board.specs.Sound.{SoundBoard}
 use Rattle.board.specs.Boards.{opened_graph, table_of, merged_graph, TwoGroups}
 use Rattle.board.specs.declared.board.Board.{Board}
-use Rattle.board.proofs.Boards.{opened_lawful, merged_lawful, rows_merged as rows_are}
+use Rattle.board.proofs.Boards.{opened_lawful, rows_merged as rows_are}
 use Rattle.board.proofs.Merging.{row_low, row_high, row_other}
 use Rattle.board.proofs.Untold.{told_board}
 

@@ -1,8 +1,8 @@
 -- Code with one row more.
-use Rattle.std.proofs.Common.{◌≡◌, ℕ, ◌+◌, ◌<◌, true, ◌≢◌, List, [], ◌∷◌, ◌++◌, map, length, get_or, take, set, refl, ap, ◌∙◌, arith, get_or-set_other, get_or-set_same, below_more}
+use Rattle.std.proofs.Common.{◌≡◌, ℕ, ◌+◌, ◌<◌, true, ◌≢◌, List, [], ◌∷◌, ◌++◌, map, length, get_or, take, set, ap, ◌∙◌, arith, get_or-set_other, get_or-set_same, below_more}
 use Rattle.std.proofs.lemmas.List.{take_more_set, map_push}
 use Rattle.code.specs.Fits.{row_fits}
-use Rattle.code.specs.Rows.{Fields, fields}
+use Rattle.code.specs.Rows.{fields}
 use Rattle.code.specs.declared.row.Row.{Row}
 use Rattle.code.specs.declared.row.Row.TheVariants.{End}
 

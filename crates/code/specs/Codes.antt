@@ -1,5 +1,5 @@
 -- What a piece of code means: its rows in order, and the bounds they keep.
-use Rattle.std.specs.Prelude.{ℕ, ◌+◌, Bool, true, false, cond, ◌&&◌, List, [], ◌∷◌, map, length, take, Some, None, Option, ◌==◌, nat_lt}
+use Rattle.std.specs.Prelude.{ℕ, ◌+◌, Bool, cond, ◌&&◌, List, [], ◌∷◌, map, take, ◌==◌, nat_lt}
 use Rattle.code.specs.Rows.{Fields, fields}
 use Rattle.code.specs.Fits.{row_fits}
 use Rattle.code.specs.declared.row.Row.{Row}

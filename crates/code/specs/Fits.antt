@@ -1,6 +1,6 @@
 -- The bounds that the rows of one piece of code keep.
-use Rattle.std.specs.Prelude.{ℕ, ◌<◌, Bool, true, ◌&&◌, Some, None, Option, nat_lt}
-use Rattle.code.specs.Rows.{Fields, fields}
+use Rattle.std.specs.Prelude.{ℕ, Bool, true, ◌&&◌, Some, None, Option, nat_lt}
+use Rattle.code.specs.Rows.{fields}
 use Rattle.code.specs.declared.row.Row.{Row}
 
 -- a field that is there holds a number below the bound

@@ -1,6 +1,6 @@
 -- The kinds of rows and the maps they may have. A map says by its bits which fields a row has:
 -- 01h destination, 02h first source, 04h second source, 08h target, 10h constant, 40h slot.
-use Rattle.std.specs.Prelude.{ℕ, ◌/◌, ◌%◌, Bool, true, false, ◌&&◌, ◌||◌, List, [], ◌∷◌, ◌==◌, nat_le}
+use Rattle.std.specs.Prelude.{ℕ, ◌/◌, ◌%◌, Bool, false, ◌&&◌, ◌||◌, List, [], ◌∷◌, ◌==◌, nat_le}
 
 -- a kind beside a map that it may have
 pub record Entry : Type 0 where

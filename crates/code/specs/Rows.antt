@@ -1,5 +1,5 @@
 -- What a row of code means: its kind and its fields, and what the engine does with the numbers in them.
-use Rattle.std.specs.Prelude.{ℕ, ◌+◌, ◌<◌, Bool, true, false, cond, ◌&&◌, ◌||◌, eqb, ltb, List, [], ◌∷◌, ◌++◌, map, take, Some, None, Option}
+use Rattle.std.specs.Prelude.{ℕ, List, Some, None, Option}
 use Rattle.code.specs.declared.row.Row.{Row}
 use Rattle.code.specs.declared.row.Row.TheVariants.{Constant, Move, Jump, Branch, Give, End, Load, Store, Operator}
 

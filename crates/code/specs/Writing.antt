@@ -1,5 +1,5 @@
 -- How rows are written as bytes. Numbers of two bytes have their lowest byte first.
-use Rattle.std.specs.Prelude.{ℕ, ◌+◌, ◌*◌, ◌/◌, ◌%◌, Bool, true, false, cond, List, [], ◌∷◌, ◌++◌, is_some, Some, None, Option}
+use Rattle.std.specs.Prelude.{ℕ, ◌+◌, ◌/◌, ◌%◌, List, [], ◌∷◌, ◌++◌, Some, None, Option}
 use Rattle.code.specs.Rows.{Fields}
 
 abbrev pub two_bytes : ℕ → List ℕ

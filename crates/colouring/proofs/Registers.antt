@@ -1,7 +1,7 @@
 -- Arrays of registers that change. Assumes nothing.
-use Rattle.std.proofs.Common.{◌≡◌, ℕ, ◌+◌, ◌-◌, ◌<◌, ◌≤◌, Bool, true, false, cond, not, ◌&&◌, ◌||◌, eqb, ltb, List, [], ◌∷◌, length, get_or, drop, set, replicate, sym, refl, ap, ◌∙◌, ap₂, inl, inr, add-one, arith}
+use Rattle.std.proofs.Common.{◌≡◌, ℕ, ◌+◌, ◌<◌, ◌≤◌, Bool, true, false, not, ◌&&◌, ◌||◌, eqb, ltb, List, length, get_or, drop, set, replicate, sym, ap, ◌∙◌, inl, inr, add-one, arith}
 use mathlib.Core.Path.{fun_ext}
-use Rattle.std.proofs.lemmas.Bool.{cases_lt, cases_eq, cases_Bool, eq-eqb, ne_eqb, lt-ltb, cond-true, cond-false}
+use Rattle.std.proofs.lemmas.Bool.{cases_lt, cases_eq, eq-eqb, ne_eqb, cond-true, cond-false}
 use Rattle.std.proofs.lemmas.Bool.Decides.{nat_tests}
 use Rattle.std.proofs.lemmas.List.{get_or-set_same, get_or-set_other, get_or-replicate, get_or_past, length-replicate, drop_more, drop_all, length-set}
 use Rattle.graph.specs.Counting.{any}
@@ -9,7 +9,7 @@ use Rattle.graph.specs.Shape.{Shape}
 use Rattle.session_laws.specs.Base.{Base, fixed}
 use Rattle.graph.specs.Counting.{first}
 use Rattle.graph.proofs.Counting.{first_same}
-use Rattle.session_laws.specs.Colouring.{painted, giving, lowest_free, none, own_number, or_none, taken}
+use Rattle.session_laws.specs.Colouring.{painted, giving, lowest_free, own_number, or_none, taken}
 use Rattle.colouring.specs.Painting.{read_at}
 
 pub none_given : (n w : ℕ) → read_at (replicate n 255) w ≡ 255

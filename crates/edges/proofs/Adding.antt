@@ -1,13 +1,12 @@
 -- A word put into the empty slot where looking for it ends. Assumes nothing.
-use Rattle.std.proofs.Common.{◌≡◌, ℕ, ◌+◌, ◌-◌, ◌/◌, ◌<◌, ◌≤◌, Bool, true, false, not, ◌&&◌, ◌||◌, eqb, ltb, ◌≢◌, ◌⊎◌, List, length, get_or, set, Some, sym, refl, ap, ◌∙◌, inl, inr, arith, length-set, get_or-set_other, get_or-set_same}
+use Rattle.std.proofs.Common.{◌≡◌, ℕ, ◌+◌, ◌<◌, not, ◌&&◌, ◌||◌, eqb, ltb, ◌≢◌, List, length, get_or, set, Some, sym, ap, ◌∙◌, inl, inr, arith, length-set, get_or-set_other, get_or-set_same}
 use Rattle.std.proofs.lemmas.Bool.{and_parts, or_cases, or_left, or_right, cases_Bool, cases_eq, eqb-true, eq-eqb, ne_eqb, ltb-true, eqb-false, not-true, not_from_true, not_from_false, true≢false}
-use Rattle.std.proofs.lemmas.Bool.Decides.{nat_tests}
-use Rattle.graph.specs.Counting.{count, any}
+use Rattle.graph.specs.Counting.{count}
 use Rattle.graph.proofs.Counting.{any_witness, any_from, first_found}
 use Rattle.graph.proofs.Merging.{same_test}
 use Rattle.graph.proofs.Stores.{count_one}
 use Rattle.edges.specs.Keys.{place}
-use Rattle.edges.specs.Table.{has_key, probed, stops, landing, no_gap, filled}
+use Rattle.edges.specs.Table.{has_key, probed, stops, landing, filled}
 use Rattle.edges.proofs.Finding.{Gapless, gap_free}
 use Rattle.edges.proofs.Places.{place_below, place_once}
 

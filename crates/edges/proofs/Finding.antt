@@ -1,7 +1,6 @@
 -- In a table without gaps, what stands in some slot is found. Assumes nothing.
-use Rattle.std.proofs.Common.{◌≡◌, ℕ, ◌+◌, ◌<◌, ◌≤◌, Bool, true, false, not, ◌&&◌, ◌||◌, eqb, ltb, ◌⊎◌, List, length, get_or, Some, None, Option, sym, refl, ap, ◌∙◌, inl, inr, zero-add, arith}
-use Rattle.std.proofs.lemmas.Bool.{and_from, or_cases, or_left, or_parts, cases_Bool, cases_order, eqb-true, eq-eqb, eqb-false, ne_eqb, lt-ltb, not_from_false, true≢false, not-false}
-use Rattle.graph.specs.Counting.{count, any, first}
+use Rattle.std.proofs.Common.{◌≡◌, ℕ, ◌+◌, ◌<◌, true, false, not, ◌&&◌, eqb, ltb, List, length, get_or, Some, None, Option, sym, refl, ap, ◌∙◌, inl, inr, arith}
+use Rattle.std.proofs.lemmas.Bool.{and_from, or_cases, or_left, or_parts, cases_Bool, cases_order, eqb-true, eq-eqb, eqb-false, ne_eqb, lt-ltb, not_from_false, true≢false}
 use Rattle.graph.proofs.Counting.{any_witness, any_from, first_found, first_missed, count_whole}
 use Rattle.edges.specs.Keys.{place}
 use Rattle.edges.specs.Table.{has_key, probed, stops, landing, found_at, no_gap, filled}

@@ -1,22 +1,20 @@
 -- What a table means, new and after a pair is joined. Assumes nothing.
-use Rattle.std.proofs.Common.{◌≡◌, ℕ, ◌+◌, ◌-◌, ◌/◌, ◌<◌, ◌≤◌, Bool, true, false, not, ◌&&◌, ◌||◌, eqb, ltb, leb, ◌⊎◌, List, length, get_or, set, replicate, Some, Ok, Err, sym, refl, ap, ◌∙◌, subst, ap₂, inl, inr, arith, length-set}
+use Rattle.std.proofs.Common.{◌≡◌, ℕ, ◌+◌, ◌-◌, ◌/◌, ◌<◌, ◌≤◌, Bool, false, not, ◌&&◌, ◌||◌, eqb, ltb, leb, List, length, get_or, set, replicate, Ok, sym, refl, ap, ◌∙◌, subst, ap₂, inl, inr, arith, length-set}
 use lib.ListN.{length-replicate, get_or-replicate, get_or-eq_default}
-use Rattle.std.proofs.lemmas.Bool.{cases_Bool, cases_lt, eqb-false, eq-eqb, ne_eqb, eqb-true, lt-ltb, or_parts, leb-false, and_parts, ltb-true, not-true, not_from_true, true≢false}
+use Rattle.std.proofs.lemmas.Bool.{cases_Bool, cases_lt, eqb-false, eq-eqb, ne_eqb, eqb-true, lt-ltb, or_parts, leb-false, and_parts, not-true, not_from_true}
 use Rattle.std.proofs.lemmas.Bool.Decides.{nat_tests}
-use Rattle.graph.specs.Counting.{count, any}
 use Rattle.graph.specs.Judging.{judged}
-use Rattle.graph.specs.Joining.{same_pair, with_pair, judge_of, join_answer, join_meaning}
-use Rattle.graph.specs.Shape.{Shape, Meaning, Lawful}
-use Rattle.graph.specs.Stores.{joined_pairs, marked_shape, no_pairs, empty_store}
+use Rattle.graph.specs.Joining.{with_pair, judge_of, join_meaning}
+use Rattle.graph.specs.Shape.{Shape}
+use Rattle.graph.specs.Stores.{joined_pairs, no_pairs, empty_store}
 use Rattle.graph.specs.declared.pair.Pair.TheVariants.{Fresh}
-use Rattle.graph.specs.declared.refusal.Refusal.TheVariants.{Full}
 use Rattle.graph.proofs.Counting.{any_witness, count_none}
-use Rattle.graph.proofs.Joining.{Unjoined, seen_fresh, fresh_pair, full_answer, full_meaning, added_answer, added_meaning}
+use Rattle.graph.proofs.Joining.{seen_fresh, fresh_pair, added_meaning}
 use Rattle.graph.proofs.Pairs.{same_shape}
 use Rattle.graph.proofs.Stores.{marked_added, joined_with_pair, joined_none}
 use Rattle.edges.specs.Keys.{key, place}
 use Rattle.edges.specs.Lawful.{table_lawful}
-use Rattle.edges.specs.Table.{has_key, probed, landing, slot_at, table_shape, table_meaning, with_half, pairs_in, filled, Fit, table_opening}
+use Rattle.edges.specs.Table.{has_key, landing, slot_at, table_shape, table_meaning, with_half, pairs_in, filled, Fit, table_opening}
 use Rattle.edges.proofs.Adding.{Landed, gap_from, added_gapless, added_key, added_filled}
 use Rattle.edges.proofs.Finding.{Gapless, empty_slot}
 use Rattle.edges.proofs.Places.{key_some, key_apart, place_below}

@@ -1,5 +1,5 @@
 -- The word that stands for a pair, and the slots where it is looked for. Assumes nothing.
-use Rattle.std.specs.Prelude.{ℕ, ◌+◌, ◌-◌, ◌*◌, ◌/◌, ◌%◌, ◌^◌, min, max, Bool, cond, nat_lt}
+use Rattle.std.specs.Prelude.{ℕ, ◌+◌, ◌-◌, ◌*◌, ◌/◌, ◌%◌, ◌^◌, min, max, cond, nat_lt}
 
 -- never 0, which stands for an empty slot
 abbrev pub key : ℕ → ℕ → ℕ

@@ -1,5 +1,5 @@
 -- What n vertices and a row of slots mean. Assumes nothing.
-use Rattle.std.specs.Prelude.{◌≡◌, ℕ, ◌-◌, ◌/◌, ◌≤◌, Bool, true, false, not, ◌&&◌, ◌||◌, List, length, Some, None, Option, Result, ◌==◌, nat_eq, nat_le, nat_lt, slice_index}
+use Rattle.std.specs.Prelude.{ℕ, ◌-◌, ◌/◌, ◌≤◌, Bool, false, not, ◌&&◌, ◌||◌, List, length, Some, None, Option, Result, ◌==◌, nat_eq, nat_le, nat_lt, slice_index}
 use Rattle.graph.specs.Counting.{count, any, first}
 use Rattle.graph.specs.Opening.{opening}
 use Rattle.graph.specs.Shape.{Shape, Meaning}

@@ -5,7 +5,7 @@ use Rattle.liveness.specs.Laws.{AllDefined}
 use Rattle.liveness.specs.Ways.{LowestUndefined}
 use Rattle.fields.specs.Reading.{got}
 use Rattle.fields.specs.declared.limits.Limits.{Limits}
-use Rattle.formula.specs.Formulas.{Rows, Formula, rows_at, finished, formula_at}
+use Rattle.formula.specs.Formulas.{Rows, rows_at, finished, formula_at}
 use Rattle.formula.specs.Faults.{number_of, place_of}
 use Rattle.formula.specs.Headers as headers
 use Rattle.formula.specs.Outcome.{Answered, meaning}

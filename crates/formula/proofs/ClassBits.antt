@@ -1,9 +1,9 @@
 -- The classes of the values, read and written.
-use Rattle.std.proofs.Common.{◌≡◌, ℕ, zero, suc, ◌+◌, ◌-◌, ◌*◌, ◌/◌, ◌%◌, ◌^◌, ◌<◌, ◌≤◌, Bool, true, false, ◌&&◌, ltb, leb, List, [], ◌∷◌, ◌++◌, length, take, drop, sym, refl, ap, ◌∙◌, ap₂, add-zero, arith, length-drop, length-take, pow_mono}
+use Rattle.std.proofs.Common.{◌≡◌, ℕ, zero, suc, ◌+◌, ◌-◌, ◌*◌, ◌/◌, ◌%◌, ◌^◌, ◌<◌, ◌≤◌, true, ltb, List, [], ◌∷◌, length, take, drop, refl, ap, arith, length-drop, length-take, pow_mono}
 use Rattle.std.proofs.lemmas.Nat.{pow-add}
 use Rattle.std.proofs.lemmas.Bool.{and_parts, ltb-true, lt-ltb, le-leb}
 use Rattle.records.specs.Keeping.{Bytes, Stands, all_bytes}
-use Rattle.fields.specs.Reading.{got, part, checked}
+use Rattle.fields.specs.Reading.{got, part}
 use Rattle.records.proofs.Codec.{then_elim, checked_got}
 use Rattle.records.proofs.FieldCodecs.{part_sound}
 use Rattle.formula.specs.Headers.{number, whole_bytes, class_bits}

@@ -1,16 +1,16 @@
 -- Bytes are accepted as a formula exactly when they are its writing and it keeps the rules.
-use Rattle.std.proofs.Common.{◌≡◌, ℕ, zero, suc, ◌+◌, ◌/◌, ◌%◌, ◌<◌, ◌≤◌, Bool, true, false, cond, ltb, List, [], ◌∷◌, ◌++◌, length, take, drop, None, sym, refl, ap, ◌∙◌, subst, inl, inr, le_refl, zero-add, arith, length-append}
+use Rattle.std.proofs.Common.{◌≡◌, ℕ, zero, suc, ◌+◌, ◌/◌, ◌%◌, ◌≤◌, Bool, true, false, cond, ltb, List, [], ◌∷◌, ◌++◌, length, None, sym, refl, ap, ◌∙◌, subst, le_refl, zero-add, arith, length-append}
 use Rattle.std.proofs.lemmas.List.{take_all}
 use Rattle.std.proofs.lemmas.Bool.{ltb-false, le-ltb, lt-ltb, and_from}
 use Rattle.code.specs.Rows.{Fields}
 use Rattle.code.specs.Writing.{two_bytes, row_bytes, rows_bytes}
 use Rattle.records.specs.Keeping.{Bytes, Stands, all_bytes}
-use Rattle.fields.specs.Reading.{Read, got, bad, then}
+use Rattle.fields.specs.Reading.{got, bad, then}
 use Rattle.fields.specs.declared.limits.Limits.{Limits}
-use Rattle.records.proofs.Codec.{never, then_elim, got_value, got_place}
-use Rattle.records.proofs.Stands.{stands_next, stands_front, stands_back, stands_within}
+use Rattle.records.proofs.Codec.{never, then_elim, got_value}
+use Rattle.records.proofs.Stands.{stands_next, stands_front, stands_back}
 use Rattle.records.proofs.WrittenBytes.{bytes_from, all_append, all_two, all_row}
-use Rattle.formula.specs.Formulas.{Formula, Rows, rows_at, finished, formula_at, with_rows, closed}
+use Rattle.formula.specs.Formulas.{Formula, rows_at, finished, formula_at, with_rows, closed}
 use Rattle.formula.specs.Headers as headers
 use Rattle.formula.specs.Headers.{header_at, limits_of, whole_bytes}
 use Rattle.formula.specs.Keeping.{bytes_of, formula_bytes, header_bytes, limits, Keeps, AllKeep}

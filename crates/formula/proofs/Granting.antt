@@ -1,10 +1,10 @@
 -- A record that keeps the rules fits the code of its formula.
-use Rattle.std.proofs.Common.{◌≡◌, ℕ, ◌+◌, ◌<◌, ◌≤◌, Bool, true, false, ◌&&◌, ltb, leb, length, Some, None, Option, sym, refl, ◌∙◌, arith}
-use Rattle.std.proofs.lemmas.Bool.{and_parts, and_from, lt-ltb, ltb-true}
+use Rattle.std.proofs.Common.{◌≡◌, ℕ, ◌+◌, ◌<◌, ◌≤◌, true, ltb, length, Some, None, Option, refl, arith}
+use Rattle.std.proofs.lemmas.Bool.{and_parts, and_from, lt-ltb}
 use Rattle.std.proofs.lemmas.Bool.Decides.{nat_tests}
 use Rattle.code.specs.Codes.{rows_of, takes}
 use Rattle.code.specs.Fits.{below, row_fits}
-use Rattle.code.specs.Rows.{Fields, fields}
+use Rattle.code.specs.Rows.{fields}
 use Rattle.code.specs.declared.body.Code.{Code}
 use Rattle.code.specs.declared.row.Row.{Row}
 use Rattle.code.proofs.Asking.{code_length}

@@ -1,9 +1,9 @@
 -- A header is read exactly where its writing stands and it keeps the ranges.
-use Rattle.std.proofs.Common.{◌≡◌, ℕ, ◌+◌, ◌*◌, ◌/◌, ◌^◌, ◌<◌, ◌≤◌, Bool, true, false, ◌&&◌, ltb, leb, List, [], ◌∷◌, ◌++◌, length, sym, refl, ap, ◌∙◌, ap₂, arith, length-append}
+use Rattle.std.proofs.Common.{◌≡◌, ℕ, ◌^◌, ◌<◌, ◌≤◌, true, ◌&&◌, ltb, leb, List, [], ◌∷◌, ◌++◌, length, ap, arith}
 use Rattle.std.proofs.lemmas.Bool.{and_parts, and_from, leb-true, le-leb, lt-ltb}
 use Rattle.code.specs.Writing.{two_bytes}
 use Rattle.records.specs.Keeping.{Bytes, Stands}
-use Rattle.fields.specs.Reading.{Read, got, byte, two}
+use Rattle.fields.specs.Reading.{got, byte, two}
 use Rattle.records.proofs.Codec.{Codec, and_checked, byte_codec, two_codec, then_elim, got_value, got_place}
 use Rattle.records.proofs.Stands.{stands_next, stands_front, stands_back, stands_within}
 use Rattle.formula.specs.Headers as headers

@@ -1,5 +1,5 @@
 -- So many records are read exactly where their writings stand and each keeps its rules.
-use Rattle.std.proofs.Common.{◌≡◌, ℕ, zero, suc, ◌+◌, ◌<◌, ◌≤◌, List, [], ◌∷◌, ◌++◌, length, sym, refl, ap, ◌∙◌, ap₂, append_assoc, append-nil, add-zero, add-one, arith, length-append}
+use Rattle.std.proofs.Common.{◌≡◌, ℕ, zero, suc, ◌+◌, List, [], ◌∷◌, ◌++◌, length, sym, refl, ap, ◌∙◌, append_assoc, append-nil, add-zero, add-one, arith, length-append}
 use Rattle.std.proofs.lemmas.List.{length_push}
 use Rattle.code.specs.Rows.{Fields}
 use Rattle.code.specs.Writing.{row_bytes, rows_bytes}

@@ -1,10 +1,9 @@
 -- The worked cases compute, and the worked formula uses no value before it is set.
-use Rattle.std.proofs.Common.{◌≡◌, ℕ, zero, suc, ◌≤◌, Bool, true, false, ◌&&◌, ◌||◌, eqb, sym, refl, ap, ◌∙◌, inl, inr}
+use Rattle.std.proofs.Common.{◌≡◌, ℕ, zero, suc, Bool, true, false, ◌&&◌, ◌||◌, eqb, refl, inl, inr}
 use Rattle.std.proofs.lemmas.Bool.{false≢true, both_ways, eqb-true, or_cases}
 use Rattle.records.specs.Records.{record_at}
 use Rattle.liveness.specs.Flow.{reads, sets, follows}
-use Rattle.liveness.specs.Laws.{AllDefined, Family}
-use Rattle.liveness.specs.Live.{LiveBefore}
+use Rattle.liveness.specs.Laws.{AllDefined}
 use Rattle.liveness.proofs.Lawful.{lawful}
 use Rattle.formula.specs.Formulas.{formula_at}
 use Rattle.formula.specs.Headers.{header_at}

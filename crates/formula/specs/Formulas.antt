@@ -1,5 +1,5 @@
 -- How a whole formula is read: the header, the records, and then that nothing is left and that the last record goes nowhere.
-use Rattle.std.specs.Prelude.{ℕ, zero, suc, Bool, true, false, cond, ◌||◌, List, [], ◌∷◌, ◌++◌, length, ◌==◌, nat_lt}
+use Rattle.std.specs.Prelude.{ℕ, zero, suc, Bool, false, cond, ◌||◌, List, [], ◌∷◌, ◌++◌, length, ◌==◌, nat_lt}
 use Rattle.code.specs.Rows.{Fields}
 use Rattle.fields.specs.Reading.{Read, got, bad, then}
 use Rattle.records.specs.Records.{record_at}

@@ -1,6 +1,6 @@
 -- How a formula's header is read: each field is read, then checked, before the next.
-use Rattle.std.specs.Prelude.{ℕ, ◌+◌, ◌-◌, ◌*◌, ◌/◌, ◌^◌, Bool, ◌&&◌, List, [], ◌∷◌, None, nat_le, nat_lt}
-use Rattle.fields.specs.Reading.{Read, got, bad, then, byte, two, part, checked}
+use Rattle.std.specs.Prelude.{ℕ, ◌+◌, ◌-◌, ◌*◌, ◌/◌, ◌^◌, ◌&&◌, List, [], ◌∷◌, None, nat_le, nat_lt}
+use Rattle.fields.specs.Reading.{Read, got, then, byte, two, part, checked}
 use Rattle.fields.specs.declared.limits.Limits.{Limits}
 use Rattle.formula.specs.declared.header.Header.{Header}
 

@@ -2,7 +2,7 @@
 use Rattle.std.specs.Prelude.{◌≡◌, ℕ, List, [], ◌∷◌, length, Some, None}
 use Rattle.code.specs.Codes.{moves_in}
 use Rattle.code.specs.Rows.{Fields}
-use Rattle.fields.specs.Reading.{Read, got, bad}
+use Rattle.fields.specs.Reading.{got, bad}
 use Rattle.liveness.specs.Laws.{AllDefined}
 use Rattle.formula.specs.Formulas.{Formula, formula_at}
 

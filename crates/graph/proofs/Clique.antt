@@ -1,9 +1,9 @@
 -- The view that joins the fixed vertices to one another. Assumes nothing.
-use Rattle.std.proofs.Common.{◌≡◌, ℕ, Bool, true, false, not, ◌&&◌, ◌||◌, eqb, ◌⊎◌, sym, refl, ap, ◌∙◌, inl, inr, arith}
-use Rattle.std.proofs.lemmas.Bool.{and_parts, and_from, or_cases, or_left}
+use Rattle.std.proofs.Common.{◌≡◌, ℕ, Bool, true, false, not, ◌&&◌, ◌||◌, eqb, refl, inl, inr, arith}
+use Rattle.std.proofs.lemmas.Bool.{and_parts, or_cases, or_left}
 use Rattle.std.proofs.lemmas.Bool.Decides.{nat_tests}
-use Rattle.graph.specs.Shape.{Shape, Lawful}
-use Rattle.graph.specs.Joining.{same_pair, with_pair}
+use Rattle.graph.specs.Shape.{Shape}
+use Rattle.graph.specs.Joining.{same_pair}
 use Rattle.graph.specs.Views.{View, clique_view}
 use Rattle.graph.proofs.Pairs.{same_shape, eqb_sym, eqb_same}
 

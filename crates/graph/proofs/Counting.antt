@@ -1,5 +1,5 @@
 -- Laws of counting, of whether any passes, and of the first that passes. Assumes nothing.
-use Rattle.std.proofs.Common.{◌≡◌, ℕ, zero, suc, ◌+◌, ◌-◌, ◌<◌, ◌≤◌, Bool, true, false, cond, ◌||◌, ◌⊎◌, Some, None, Option, sym, refl, ap, ◌∙◌, inl, inr, add-zero, add-suc, suc-add, zero-add, add-one, arith}
+use Rattle.std.proofs.Common.{◌≡◌, ℕ, zero, suc, ◌+◌, ◌-◌, ◌<◌, ◌≤◌, Bool, true, false, cond, Some, None, Option, sym, refl, ap, ◌∙◌, inl, inr, add-zero, add-suc, suc-add, zero-add, add-one, arith}
 use Rattle.std.proofs.lemmas.Bool.{cases_Bool, cases_eq, cases_lt, cases_order, cond_both, or_cases, or_left, or_right, true≢false, false≢true}
 use Rattle.graph.specs.Counting.{count, any, first}
 

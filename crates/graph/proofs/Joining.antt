@@ -1,10 +1,10 @@
 -- What join comes to, by what is found of the pair; and joining through a view. Assumes nothing.
-use Rattle.std.proofs.Common.{◌≡◌, ℕ, ◌-◌, ◌<◌, Bool, true, false, cond, not, ◌&&◌, ◌||◌, eqb, ltb, ◌⊎◌, Ok, Err, sym, refl, ap, ◌∙◌, subst, inl, inr, arith}
+use Rattle.std.proofs.Common.{◌≡◌, ℕ, ◌-◌, ◌<◌, Bool, true, false, ◌&&◌, eqb, Ok, Err, sym, refl, ap, ◌∙◌, subst, inl, inr, arith}
 use Rattle.std.proofs.lemmas.Bool.{and_parts, and_from, true≢false, cases_Bool}
 use Rattle.std.proofs.lemmas.Bool.Decides.{nat_tests}
 use Rattle.graph.specs.Shape.{Shape, Meaning, Lawful}
 use Rattle.graph.specs.Judging.{judged}
-use Rattle.graph.specs.Joining.{judge_of, settled, verdict, with_pair, answer_of, meaning_of, join_answer, join_meaning}
+use Rattle.graph.specs.Joining.{judge_of, settled, with_pair, answer_of, meaning_of, join_answer, join_meaning}
 use Rattle.graph.specs.Views.{View, over, HandedDown}
 use Rattle.graph.specs.declared.pair.Pair.{Pair}
 use Rattle.graph.specs.declared.pair.Pair.TheVariants.{Refused, Present, Fresh}

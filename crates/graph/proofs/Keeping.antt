@@ -1,9 +1,8 @@
 -- Views that hide vertices. Assumes nothing.
-use Rattle.std.proofs.Common.{◌≡◌, ℕ, ◌<◌, ◌≤◌, Bool, true, false, cond, not, ◌&&◌, ◌||◌, eqb, ◌⊎◌, Option, sym, refl, ap, ◌∙◌, inl, inr, arith}
+use Rattle.std.proofs.Common.{◌≡◌, ℕ, Bool, true, ◌&&◌, ◌||◌, Option, refl, inl, inr, arith}
 use Rattle.std.proofs.lemmas.Bool.{and_parts, and_from}
 use Rattle.std.proofs.lemmas.Bool.Decides.{nat_tests}
-use Rattle.graph.specs.Shape.{Shape, Lawful}
-use Rattle.graph.specs.Joining.{same_pair, with_pair}
+use Rattle.graph.specs.Joining.{same_pair}
 use Rattle.graph.specs.Views.{View, keeping, class_view, removed_view}
 use Rattle.graph.specs.declared.class.Class.{Class}
 use Rattle.graph.proofs.Pairs.{same_shape, pair_is}

@@ -1,5 +1,5 @@
 -- Numbers that pass a test: how many, whether any, the first. Assumes nothing.
-use Rattle.std.specs.Prelude.{ℕ, zero, suc, ◌+◌, Bool, true, false, cond, ◌||◌, Some, None, Option}
+use Rattle.std.specs.Prelude.{ℕ, zero, suc, ◌+◌, Bool, false, cond, ◌||◌, Some, None, Option}
 
 -- how many numbers below n pass
 abbrev pub count : (ℕ → Bool) → ℕ → ℕ

@@ -1,5 +1,5 @@
 -- Joining a pair: what is answered, and what the graph means afterwards. Assumes nothing.
-use Rattle.std.specs.Prelude.{ℕ, ◌-◌, Bool, true, false, cond, ◌&&◌, ◌||◌, Ok, Err, Result, ◌==◌}
+use Rattle.std.specs.Prelude.{ℕ, ◌-◌, Bool, cond, ◌&&◌, ◌||◌, Ok, Err, Result, ◌==◌}
 use Rattle.graph.specs.Shape.{Shape, Meaning}
 use Rattle.graph.specs.Judging.{judged}
 use Rattle.graph.specs.declared.pair.Pair.{Pair}

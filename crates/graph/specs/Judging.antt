@@ -1,5 +1,5 @@
 -- What is found of a pair that is to be joined, before room is looked for. Assumes nothing.
-use Rattle.std.specs.Prelude.{ℕ, Bool, true, false, cond, ◌&&◌, ◌==◌, nat_lt}
+use Rattle.std.specs.Prelude.{ℕ, Bool, cond, ◌&&◌, ◌==◌, nat_lt}
 use Rattle.graph.specs.declared.pair.Pair.{Pair}
 use Rattle.graph.specs.declared.pair.Pair.TheVariants.{Refused, Present, Fresh}
 use Rattle.graph.specs.declared.refusal.Refusal.TheVariants.{NoVertex, NotStanding, ToItself}

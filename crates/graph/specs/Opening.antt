@@ -1,5 +1,5 @@
 -- Whether a store can be opened. Assumes nothing.
-use Rattle.std.specs.Prelude.{ℕ, Bool, true, false, cond, ◌&&◌, Ok, Err, Result, nat_le}
+use Rattle.std.specs.Prelude.{ℕ, Bool, cond, ◌&&◌, Ok, Err, Result, nat_le}
 use Rattle.graph.specs.declared.opening.OpeningRefusal.{OpeningRefusal}
 use Rattle.graph.specs.declared.opening.OpeningRefusal.TheVariants.{NoSuchSize, ShortMemory}
 

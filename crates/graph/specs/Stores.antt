@@ -1,5 +1,5 @@
 -- What a store of all n vertices means, whatever way it keeps its pairs. Assumes nothing.
-use Rattle.std.specs.Prelude.{◌≡◌, ℕ, zero, suc, ◌+◌, Bool, true, false, not, ◌&&◌, Ok, Err, Result, ◌==◌, nat_lt}
+use Rattle.std.specs.Prelude.{◌≡◌, ℕ, zero, suc, ◌+◌, Bool, false, not, ◌&&◌, Ok, Err, Result, ◌==◌, nat_lt}
 use Rattle.graph.specs.Counting.{count}
 use Rattle.graph.specs.Shape.{Shape, Meaning}
 use Rattle.graph.specs.declared.opening.OpeningRefusal.{OpeningRefusal}

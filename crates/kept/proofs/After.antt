@@ -1,16 +1,15 @@
 -- A session after a granted call hangs together. Assumes nothing.
-use Rattle.std.proofs.Common.{◌≡◌, ℕ, ◌+◌, ◌-◌, ◌<◌, ◌≤◌, min, max, Bool, true, false, not, ◌&&◌, ◌||◌, eqb, ltb, ◌⊎◌, List, [], ◌∷◌, ◌++◌, length, drop, set, sym, refl, ap, ◌∙◌, subst, ap₂, inl, inr, arith}
+use Rattle.std.proofs.Common.{◌≡◌, ℕ, ◌+◌, ◌<◌, ◌≤◌, Bool, true, not, ◌&&◌, ◌||◌, eqb, ltb, ◌⊎◌, List, [], ◌∷◌, ◌++◌, length, drop, set, sym, refl, ap, ◌∙◌, subst, ap₂, inl, inr, arith}
 use mathlib.Core.Path.{fun_ext}
 use Rattle.std.proofs.lemmas.List.{drop-set, length-set}
 use Rattle.std.proofs.lemmas.Bool.{lt-ltb}
 use Rattle.std.proofs.lemmas.Bool.Decides.{nat_tests}
 use Rattle.numbers.specs.Sets.{has}
 use Rattle.numbers.specs.declared.number_set.NumberSet.{NumberSet}
-use Rattle.board.specs.Boards.{table_of, opened_graph}
-use Rattle.board.specs.declared.board.Board.{Board}
+use Rattle.board.specs.Boards.{table_of}
 use Rattle.session_laws.specs.Base.{Base}
 use Rattle.session_laws.specs.State.{State, Move, listed, standing_graph, merged_graph, move_at}
-use Rattle.session_laws.specs.Calls.{Call, Outcome, noted, marked, simplified, frozen, pushed, together, apart, merged}
+use Rattle.session_laws.specs.Calls.{Call, Outcome, noted, marked, simplified, frozen, pushed, together, apart}
 use Rattle.session_laws.specs.Grounds.{GrantedOn}
 use Rattle.session_laws.specs.Invariants.{SoundState}
 use Rattle.session_laws.specs.Outcomes.{outcome}
@@ -24,7 +23,7 @@ use Rattle.kept.specs.Sound.{SoundKept, state_over}
 use Rattle.kept.specs.Kept.{base_of, state_of}
 use Rattle.kept.specs.declared.kept.Kept.{Kept}
 use Rattle.kept.specs.declared.moves.Move.{Move as Row}
-use Rattle.kept.proofs.Facts.{sound_of, base_sound, state_sound, some_room}
+use Rattle.kept.proofs.Facts.{sound_of, base_sound, state_sound}
 
 pub granted_on : (k : Kept) (c : Call) (o : Outcome) → o ≡ outcome (base_of k) (state_of k) c → GrantedOn (base_of k) (state_of k) o
 granted_on k c o e = subst (GrantedOn (base_of k) (state_of k)) (sym e) (grounds (base_of k) (base_sound k) (state_of k) c)

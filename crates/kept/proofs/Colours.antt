@@ -1,5 +1,5 @@
 -- What colour gives out. Assumes nothing.
-use Rattle.std.proofs.Common.{◌≡◌, ℕ, zero, suc, ◌+◌, ◌-◌, ◌<◌, ◌≤◌, Bool, true, false, cond, not, ◌&&◌, ◌||◌, eqb, ltb, List, [], ◌∷◌, length, get_or, drop, sym, refl, ap, ◌∙◌, inl, inr, arith}
+use Rattle.std.proofs.Common.{◌≡◌, ℕ, zero, suc, ◌+◌, ◌-◌, ◌<◌, ◌≤◌, true, false, eqb, List, [], ◌∷◌, length, get_or, drop, sym, refl, ap, ◌∙◌, arith}
 use mathlib.Core.Path.{fun_ext}
 use Rattle.std.proofs.lemmas.Bool.{lt-ltb, le-ltb, cond-true, cond-false, or_left, or_right, eq-eqb}
 use Rattle.std.proofs.lemmas.List.{get_or-drop, length-drop}
@@ -14,7 +14,7 @@ use Rattle.standing.specs.Standing.{graph_of, loose_in, board_of, base_of as bas
 use Rattle.colouring.specs.Painting.{merged_under, read_at, member_register}
 use Rattle.kept.specs.Kept.{base_of, state_of}
 use Rattle.kept.specs.declared.kept.Kept.{Kept}
-use Rattle.kept.proofs.Facts.{sound_of, base_sound, state_sound}
+use Rattle.kept.proofs.Facts.{base_sound, state_sound}
 use Rattle.kept.proofs.Verdicts.{any_loose_is}
 
 module _ (k : Kept) (n : ℕ) where

@@ -1,15 +1,15 @@
 -- What every session keeps, told by its meaning. Assumes nothing.
-use Rattle.std.proofs.Common.{◌≡◌, ℕ, ◌+◌, ◌-◌, ◌<◌, ◌≤◌, min, Bool, true, false, not, ◌&&◌, ◌||◌, eqb, ltb, List, map, length, get_or, take, drop, sym, refl, ap, ◌∙◌, ap₂, arith}
+use Rattle.std.proofs.Common.{◌≡◌, ℕ, ◌+◌, ◌-◌, ◌<◌, ◌≤◌, min, Bool, true, not, ◌&&◌, List, map, length, get_or, take, drop, ap, ◌∙◌, arith}
 use mathlib.Core.Path.{fun_ext}
 use Rattle.std.proofs.lemmas.List.{length-drop, length-take, length-map, get_or-map, get_or-take}
 use Rattle.std.proofs.lemmas.Bool.Decides.{nat_tests}
 use Rattle.graph.specs.Counting.{count}
-use Rattle.graph.specs.Shape.{Shape, Lawful}
+use Rattle.graph.specs.Shape.{Shape}
 use Rattle.numbers.specs.Sets.{has}
-use Rattle.board.specs.Boards.{opened_graph, table_of, merged_graph as merged_in}
+use Rattle.board.specs.Boards.{merged_graph as merged_in}
 use Rattle.board.proofs.Boards.{merged_lawful}
-use Rattle.session_laws.specs.Base.{Base, SoundBase, fixed}
-use Rattle.session_laws.specs.State.{State, Move, listed, standing_graph, move_at, no_move}
+use Rattle.session_laws.specs.Base.{SoundBase}
+use Rattle.session_laws.specs.State.{listed, standing_graph, move_at, no_move}
 use Rattle.session_laws.specs.Invariants.{SoundState}
 use Rattle.session_laws.proofs.Cores.{far_stands}
 use Rattle.session_laws.proofs.Counts.{but, count_less}
@@ -18,7 +18,7 @@ use Rattle.session_laws.proofs.Standing.{standing_lawful}
 use Rattle.standing.specs.Standing.{graph_of, is_left, board_of, base_of as base_under}
 use Rattle.standing.proofs.Shapes.{base_sound as base_sound_under}
 use Rattle.kept.specs.Moves.{moves_of, move_of}
-use Rattle.kept.specs.Sound.{SoundKept, state_over}
+use Rattle.kept.specs.Sound.{SoundKept}
 use Rattle.kept.specs.Kept.{base_of, state_of}
 use Rattle.kept.specs.declared.kept.Kept.{Kept}
 use Rattle.kept.specs.declared.moves.Move.{Move as Row}

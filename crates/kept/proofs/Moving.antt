@@ -1,15 +1,15 @@
 -- Lists of moves that change. Assumes nothing.
-use Rattle.std.proofs.Common.{◌≡◌, ℕ, zero, suc, ◌+◌, ◌<◌, ◌≤◌, Bool, true, false, cond, ◌&&◌, ◌||◌, List, [], ◌∷◌, ◌++◌, map, length, get_or, take, set, sym, refl, ap, ◌∙◌, ap₂, inl, inr, arith}
-use Rattle.std.proofs.lemmas.Bool.{cases_lt, cases_eq, cond-true, cond-false}
+use Rattle.std.proofs.Common.{◌≡◌, ℕ, zero, suc, ◌+◌, ◌<◌, ◌≤◌, true, false, cond, List, [], ◌∷◌, ◌++◌, map, length, get_or, take, set, sym, refl, ap, ◌∙◌, inl, inr, arith}
+use Rattle.std.proofs.lemmas.Bool.{cases_lt, cond-true, cond-false}
 use Rattle.std.proofs.lemmas.List.{take_more_set, map_push, map-set, ext_get_or, get_or-map, get_or-set_same, get_or-set_other, length-map, length-set}
-use Rattle.session_laws.specs.State.{State, Move, move_at, no_move, waits}
+use Rattle.session_laws.specs.State.{Move, move_at, no_move, waits}
 use Rattle.session_laws.specs.Runs.{closed, closing_all}
 use Rattle.kept.specs.Moves.{moves_of, move_of}
 use Rattle.kept.specs.Kept.{state_of}
 use Rattle.kept.specs.declared.kept.Kept.{Kept}
 use Rattle.kept.specs.declared.moves.Move.{Move as Row}
 use Rattle.kept.proofs.Rows.{no_row}
-use Rattle.kept.proofs.Facts.{moves_long, move_in, noted_long, move_is, sound_of}
+use Rattle.kept.proofs.Facts.{moves_long, move_in, move_is, sound_of}
 
 -- one more
 pub moves_more : (rows : List Row) (n : ℕ) (row : Row) → n < length rows → moves_of (set rows n row) (n + 1) ≡ moves_of rows n ++ move_of row ∷ []

@@ -1,5 +1,5 @@
 -- Taking facts out of where only their being there is told. Assumes nothing.
-use Rattle.std.proofs.Common.{◌≡◌, ℕ, List, [], ◌∷◌}
+use Rattle.std.proofs.Common.{ℕ, List, [], ◌∷◌}
 use Rattle.numbers.specs.declared.number_set.NumberSet.{NumberSet}
 use Rattle.board.proofs.Untold.{told_test, told_number, told_most}
 use Rattle.session_laws.specs.Base.{Base}

@@ -1,16 +1,15 @@
 -- A session after a merge. Assumes nothing.
-use Rattle.std.proofs.Common.{◌≡◌, ℕ, ◌<◌, ◌≤◌, min, max, Bool, true, false, not, ◌&&◌, ◌||◌, eqb, List, length, get_or, set, sym, refl, ap, ◌∙◌, subst, ap₂, arith}
+use Rattle.std.proofs.Common.{◌≡◌, ℕ, ◌<◌, min, max, Bool, false, not, ◌&&◌, eqb, List, length, get_or, set, sym, refl, ap, ◌∙◌, arith}
 use Rattle.std.proofs.lemmas.Bool.Decides.{nat_tests}
-use Rattle.board.specs.Boards.{table_of, opened_graph, merged_graph as merged_in, TwoGroups}
+use Rattle.board.specs.Boards.{table_of, merged_graph as merged_in, TwoGroups}
 use Rattle.board.specs.declared.board.Board.{Board}
-use Rattle.session_laws.specs.Base.{Base}
-use Rattle.session_laws.specs.State.{State, Move, standing_graph, merged_graph, listed, move_at}
-use Rattle.session_laws.specs.Calls.{Outcome, merged}
+use Rattle.session_laws.specs.State.{Move, standing_graph, merged_graph, listed, move_at}
+use Rattle.session_laws.specs.Calls.{merged}
 use Rattle.session_laws.specs.Grounds.{GrantedOn}
 use Rattle.session_laws.specs.Runs.{left_by, united, closed}
 use Rattle.session_laws.proofs.Pairs.{Groups, groups_of}
 use Rattle.session_laws.proofs.Rows.{stands_now}
-use Rattle.session_laws.proofs.Standing.{Stands, name_from}
+use Rattle.session_laws.proofs.Standing.{name_from}
 use Rattle.standing.specs.Standing.{board_of, is_left, base_of as base_under}
 use Rattle.standing.specs.declared.standing.Standing.{Standing}
 use Rattle.kept.specs.Moves.{moves_of}

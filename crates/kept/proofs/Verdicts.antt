@@ -1,15 +1,15 @@
 -- What the tests in the code make of the outcomes. Assumes nothing.
-use Rattle.std.proofs.Common.{◌≡◌, ℕ, ◌<◌, ◌≤◌, Bool, true, false, cond, not, ◌&&◌, ◌||◌, ltb, leb, length, sym, refl, ap, ◌∙◌, subst, ap₂, arith}
+use Rattle.std.proofs.Common.{◌≡◌, ℕ, ◌<◌, ◌≤◌, Bool, true, false, cond, not, ◌&&◌, ◌||◌, ltb, leb, length, sym, refl, ap, ◌∙◌, ap₂, arith}
 use Rattle.std.proofs.lemmas.Bool.{lt-ltb, le-ltb, cond-true, cond-false}
 use Rattle.std.proofs.lemmas.Bool.Decides.{nat_tests}
 use Rattle.graph.specs.Counting.{any}
 use Rattle.graph.specs.Shape.{Shape, degree}
 use Rattle.session_laws.specs.Base.{Base, fixed}
-use Rattle.session_laws.specs.State.{State, standing_graph, has_pending, holds_temporary, is_loose, degree_in}
-use Rattle.session_laws.specs.Calls.{Call, Outcome, refused, noted, simplified, frozen, pushed}
-use Rattle.session_laws.specs.Outcomes.{outcome, at_vertex, note_outcome, simplify_outcome, freeze_outcome, push_outcome, low_degree, some_loose}
+use Rattle.session_laws.specs.State.{State, standing_graph, is_loose}
+use Rattle.session_laws.specs.Calls.{Call, Outcome, refused, noted}
+use Rattle.session_laws.specs.Outcomes.{outcome, at_vertex, note_outcome, low_degree, some_loose}
 use Rattle.session_laws.specs.Runs.{called, left_by}
-use Rattle.standing.specs.Standing.{graph_of, fixed_in, light_at, light_loose, base_of as base_under}
+use Rattle.standing.specs.Standing.{graph_of, fixed_in, light_at, light_loose}
 use Rattle.kept.specs.Kept.{base_of, state_of}
 use Rattle.kept.specs.declared.kept.Kept.{Kept}
 use Rattle.kept.proofs.Facts.{graph_is, noted_long}

@@ -4,7 +4,7 @@ use Rattle.numbers.specs.Sets.{has}
 use Rattle.numbers.specs.declared.number_set.NumberSet.{NumberSet}
 use Rattle.session_laws.specs.State.{State, standing_graph}
 use Rattle.session_laws.specs.Invariants.{SoundState}
-use Rattle.board.specs.Boards.{opened_graph, table_of}
+use Rattle.board.specs.Boards.{table_of}
 use Rattle.standing.specs.Standing.{base_of, board_of, is_left}
 use Rattle.standing.specs.declared.standing.Standing.{Standing}
 use Rattle.kept.specs.Moves.{moves_of}

@@ -7,7 +7,7 @@ use Rattle.numbers.specs.declared.number_set.NumberSet.{NumberSet}
 use Rattle.numbers.specs.Counting.{count}
 use Rattle.numbers.proofs.Counting.{count_grows}
 use Rattle.numbers.proofs.Sets.{has_below, has_large}
-use Rattle.liveness.specs.Families.{in_set, member, lacking}
+use Rattle.liveness.specs.Families.{in_set, lacking}
 
 pub in_set_past : (family : List NumberSet) (i v : ℕ) → length family ≤ i → in_set family i v ≡ false
 unfolding in_set

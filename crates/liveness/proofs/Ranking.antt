@@ -5,7 +5,7 @@ use Rattle.std.proofs.lemmas.Bool.{cases_Bool, cases_eq, cases_lt, false≢true,
 use Rattle.code.specs.Rows.{Fields}
 use Rattle.numbers.specs.Counting.{count}
 use Rattle.numbers.proofs.Counting.{count_mono, count_grows}
-use Rattle.liveness.specs.Flow.{names, goes_on, row_reads, row_sets, row_followed, follows}
+use Rattle.liveness.specs.Flow.{names, goes_on, row_reads, row_sets, row_followed}
 use Rattle.liveness.specs.Ranks.{rank, known, target_rank, rank_ahead, row_rank, Led, Ranked, Level, sum_of}
 use Rattle.liveness.proofs.Places.{reads_at, sets_at, follows_at}
 

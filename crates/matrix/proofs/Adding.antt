@@ -1,16 +1,16 @@
 -- Setting a bit joins a pair. Assumes nothing.
-use Rattle.std.proofs.Common.{◌≡◌, ℕ, ◌+◌, ◌-◌, ◌*◌, ◌/◌, ◌%◌, ◌^◌, ◌<◌, ◌≤◌, Bool, true, false, not, ◌&&◌, ◌||◌, eqb, ltb, leb, ◌⊎◌, List, length, get_or, set, Ok, sym, refl, ap, ◌∙◌, inl, inr, arith, drop-set-lt}
+use Rattle.std.proofs.Common.{◌≡◌, ℕ, ◌-◌, ◌*◌, ◌/◌, ◌%◌, ◌^◌, ◌<◌, ◌≤◌, Bool, true, false, not, ◌&&◌, ◌||◌, eqb, ltb, leb, List, length, get_or, set, Ok, sym, refl, ap, ◌∙◌, arith, drop-set-lt}
 use lib.Bits.{bit_or}
 use Rattle.std.proofs.lemmas.Nat.{one_shl}
-use Rattle.std.proofs.lemmas.Bool.{cases_eq, cases_lt, eqb-false, eq-eqb, ne_eqb, leb-false, or_parts}
+use Rattle.std.proofs.lemmas.Bool.{eqb-false, ne_eqb, leb-false, or_parts}
 use Rattle.std.proofs.lemmas.Bool.Decides.{nat_tests}
-use Rattle.graph.specs.Shape.{Shape, Meaning, Lawful}
+use Rattle.graph.specs.Shape.{Shape}
 use Rattle.graph.specs.Judging.{judged}
 use Rattle.graph.specs.Joining.{same_pair, with_pair, judge_of, join_answer, join_meaning}
 use Rattle.graph.specs.Stores.{open_pairs}
 use Rattle.graph.specs.declared.pair.Pair.TheVariants.{Fresh}
 use Rattle.graph.proofs.Joining.{fresh_pair, seen_fresh, added_answer, added_meaning}
-use Rattle.graph.proofs.Pairs.{same_shape, pair_apart}
+use Rattle.graph.proofs.Pairs.{same_shape}
 use Rattle.graph.proofs.Stores.{open_with_pair}
 use Rattle.matrix.specs.Layout.{cell, bit_at, bytes_for}
 use Rattle.matrix.specs.Lawful.{matrix_lawful}

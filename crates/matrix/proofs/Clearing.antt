@@ -1,12 +1,10 @@
 -- Memory that is cleared means a graph without pairs. Assumes nothing.
-use Rattle.std.proofs.Common.{◌≡◌, ℕ, zero, suc, ◌+◌, ◌-◌, ◌/◌, ◌%◌, ◌<◌, ◌≤◌, Bool, true, false, not, ◌&&◌, eqb, ltb, ◌⊎◌, List, [], ◌∷◌, ◌++◌, length, get_or, drop, set, replicate, Ok, Err, Result, sym, refl, ap, ◌∙◌, ap₂, inl, inr, add-one, arith, length-append, length-drop}
+use Rattle.std.proofs.Common.{◌≡◌, ℕ, zero, suc, ◌/◌, ◌%◌, ◌<◌, ◌≤◌, true, false, not, ◌&&◌, eqb, ltb, List, length, get_or, drop, replicate, Ok, sym, refl, ap, ◌∙◌, inl, inr, add-one, arith, length-append, length-drop}
 use lib.ListN.{length-replicate, get_or-replicate, get_or-append}
 use Rattle.std.proofs.lemmas.Bool.{and_parts, ltb-true, eqb-false, not-true, cases_Bool}
 use Rattle.std.proofs.lemmas.Bool.Decides.{nat_tests}
 use Rattle.graph.specs.Counting.{count}
-use Rattle.graph.specs.Shape.{Shape, Meaning}
 use Rattle.graph.specs.Stores.{total, open_pairs, no_pairs, empty_store}
-use Rattle.graph.specs.declared.opening.OpeningRefusal.{OpeningRefusal}
 use Rattle.graph.proofs.Pairs.{same_shape}
 use Rattle.matrix.specs.Layout.{triangle, cell, bit, bit_at, bytes_for, cleared, Room}
 use Rattle.matrix.specs.Matrix.{matrix_shape, matrix_meaning, with_open_pairs, matrix_opening}

@@ -1,5 +1,5 @@
 -- Rows of a triangle, one after another. Assumes nothing.
-use Rattle.std.proofs.Common.{◌≡◌, ℕ, zero, suc, ◌+◌, ◌-◌, ◌*◌, ◌/◌, ◌<◌, ◌≤◌, min, max, Bool, true, false, eqb, ◌⊎◌, sym, refl, ap, ◌∙◌, inl, inr, suc-mul, mul-le-mul_left, mul-suc, arith}
+use Rattle.std.proofs.Common.{◌≡◌, ℕ, zero, suc, ◌+◌, ◌*◌, ◌/◌, ◌<◌, ◌≤◌, min, max, true, false, eqb, sym, ap, ◌∙◌, inl, inr, suc-mul, mul-suc, arith}
 use Rattle.std.proofs.lemmas.Bool.{cases_order, cases_lt, cases_eq, cases_Bool, eq-eqb, ne_eqb}
 use Rattle.graph.proofs.Pairs.{pair_is}
 use Rattle.std.proofs.lemmas.Bool.Decides.{nat_tests}

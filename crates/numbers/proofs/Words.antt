@@ -1,12 +1,12 @@
 -- The laws of a word's digits.
-use Rattle.std.proofs.Common.{◌≡◌, ℕ, zero, suc, ◌+◌, ◌-◌, ◌*◌, ◌/◌, ◌%◌, ◌^◌, ◌<◌, ◌≤◌, Bool, true, false, cond, not, ◌&&◌, ◌||◌, eqb, ltb, ◌⊎◌, sym, refl, ap, ◌∙◌, subst, ap₂, inl, inr, add-zero, add-suc, mod-lt, pow-suc, zero-add, add-one, one-add, arith, pow_pos, shr-shr}
+use Rattle.std.proofs.Common.{◌≡◌, ℕ, zero, suc, ◌+◌, ◌-◌, ◌*◌, ◌/◌, ◌%◌, ◌^◌, ◌<◌, true, false, cond, not, ◌&&◌, ◌||◌, eqb, ltb, sym, refl, ap, ◌∙◌, inl, inr, pow-suc, zero-add, one-add, arith, pow_pos, shr-shr}
 use lib.Bits.{bit_and, bit_or, and_shr, or_shr, and_mod, or_mod, and_mask}
-use lib.Count.{ones, ones_step, count_trailing_zeros, under}
+use lib.Count.{ones, ones_step, count_trailing_zeros}
 use lib.Dec.{eqb-zero-suc, eqb-suc-zero, eqb-suc-suc, leb-suc-suc}
 use Rattle.std.proofs.lemmas.Bool.{both_ways, cases_eq, lt-ltb, le-ltb}
 use Rattle.numbers.specs.Counting.{count}
 use Rattle.numbers.specs.Words.{bit}
-use Rattle.numbers.proofs.Counting.{count_same, count_split, count_zero, count_suc}
+use Rattle.numbers.proofs.Counting.{count_same, count_split}
 
 pub bit_shift : (w j k : ℕ) → bit (w / 2 ^ j) k ≡ bit w (j + k)
 unfolding bit

@@ -1,5 +1,5 @@
 -- Counting and finding among the numbers that pass a test. The definitions are shut; proofs/Counting.antt has their laws.
-use Rattle.std.specs.Prelude.{ℕ, zero, suc, ◌+◌, Bool, true, false, cond, ◌||◌, Some, None, Option}
+use Rattle.std.specs.Prelude.{ℕ, zero, suc, ◌+◌, Bool, false, cond, ◌||◌, Some, None, Option}
 
 -- how many numbers below n pass
 unfoldable pub count : (ℕ → Bool) → ℕ → ℕ

@@ -3,7 +3,7 @@ use mathlib.Core.Path.{◌≡◌, refl, ◌∙◌, ap, subst}
 use Prim.Native.Nat.{ℕ}
 use Rattle.graph.specs.Shape.{Shape, Meaning, Lawful}
 use Rattle.graph.specs.Joining.{judge_of, join_meaning}
-use Rattle.graph.specs.Views.{View, over, HandedDown}
+use Rattle.graph.specs.Views.{over, HandedDown}
 use Rattle.graph.specs.declared.pair.Pair.{Pair}
 use Rattle.graph.specs.declared.pair.Pair.TheVariants.{Refused, Present, Fresh}
 use Rattle.graph.proofs.Joining.{fresh_under, handed_at, handed_map}
@@ -17,7 +17,6 @@ use Rattle.views.specs.declared.class.ClassView.{ClassView}
 use Rattle.views.specs.declared.clique.CliqueView.{CliqueView}
 use Rattle.piles.specs.declared.looks.Looks.{Looks}
 use Rattle.views.specs.declared.merged.MergedView.{MergedView}
-use Rattle.views.specs.declared.removed.RemovedView.{RemovedView}
 
 module _ {G : Type 0} (means : G → Meaning) (leaves : G → ℕ → ℕ → G → Type 0) (u v : ℕ) where
   abbrev class_shape : ClassView G → Shape

@@ -1,10 +1,10 @@
 -- Reading and writing undo each other, field by field.
-use Rattle.std.proofs.Common.{◌≡◌, ℕ, ◌+◌, ◌*◌, ◌/◌, ◌%◌, ◌<◌, ◌≤◌, Bool, true, false, cond, ◌&&◌, eqb, ltb, leb, List, [], ◌∷◌, ◌++◌, length, get_or, take, drop, is_some, Some, None, Option, sym, refl, ap, ◌∙◌, ap₂, inl, inr, add-zero, arith, length-drop, length-take}
-use Rattle.std.proofs.lemmas.Bool.{leb-true, le-leb, cases_Bool, both_ways, and_parts, and_from, lt-ltb, ltb-true, eq-eqb, eqb-true}
+use Rattle.std.proofs.Common.{◌≡◌, ℕ, ◌+◌, ◌*◌, ◌/◌, ◌%◌, Bool, true, false, cond, ◌&&◌, ltb, leb, List, [], ◌∷◌, length, get_or, is_some, Some, None, Option, sym, refl, ap, ◌∙◌, ap₂, add-zero, arith}
+use Rattle.std.proofs.lemmas.Bool.{leb-true, le-leb, and_parts, and_from, lt-ltb}
 use Rattle.code.specs.Writing as writing
-use Rattle.records.specs.Keeping.{Stands, Bytes, passes, short, all_bytes, eight}
-use Rattle.fields.specs.Reading.{Read, got, bad, then, if_long, byte, two, part, checked, if_there}
-use Rattle.records.proofs.Stands.{stands_byte, stands_two, stands_part, stands_at, stands_within}
+use Rattle.records.specs.Keeping.{Stands, Bytes, passes}
+use Rattle.fields.specs.Reading.{Read, got, bad, then, byte, two, checked, if_there}
+use Rattle.records.proofs.Stands.{stands_byte, stands_two, stands_at, stands_within}
 
 pub never : {A : Type 0} {a : A} {p n q : ℕ} → bad n q ≡ got a p → ⊥
 never e = let z : ◌≡◌ {A = ℕ} 0 1 = cc in omega arith

@@ -1,11 +1,11 @@
 -- Each field of a record, read and written.
-use Rattle.std.proofs.Common.{◌≡◌, ℕ, zero, suc, ◌+◌, ◌<◌, ◌≤◌, Bool, true, false, cond, ◌&&◌, eqb, ltb, leb, List, [], ◌∷◌, ◌++◌, length, get_or, take, drop, Some, None, Option, sym, refl, ap, ◌∙◌, arith, length-drop, length-take}
+use Rattle.std.proofs.Common.{◌≡◌, ℕ, suc, ◌+◌, ◌<◌, ◌≤◌, Bool, true, false, cond, ◌&&◌, eqb, ltb, leb, List, [], ◌∷◌, length, get_or, take, drop, Option, refl, ap, arith, length-drop, length-take}
 use Rattle.std.proofs.lemmas.List.{get_or-drop, get_or-take}
 use Rattle.std.proofs.lemmas.Bool.{leb-true, le-leb, and_parts, and_from, lt-ltb, eq-eqb, eqb-true}
 use Rattle.code.specs.Writing.{two_bytes}
 use Rattle.fields.specs.InUse.{in_use, below_given}
 use Rattle.records.specs.Keeping.{Stands, Bytes, short, all_bytes, eight}
-use Rattle.fields.specs.Reading.{Read, got, bad, part}
+use Rattle.fields.specs.Reading.{got, part}
 use Rattle.fields.specs.Operands.{operand, source, target, slot, same_class}
 use Rattle.fields.specs.declared.limits.Limits.{Limits}
 use Rattle.records.proofs.Codec.{Codec, and_checked, two_codec, long_got}

@@ -1,18 +1,17 @@
 -- A record is read exactly where its writing stands and it keeps the rules.
-use Rattle.std.proofs.Common.{◌≡◌, ℕ, ◌+◌, ◌*◌, ◌/◌, ◌%◌, ◌<◌, ◌≤◌, Bool, true, false, cond, ◌&&◌, ◌||◌, eqb, ltb, leb, List, [], ◌∷◌, ◌++◌, length, is_some, Some, None, Option, sym, refl, ap, ◌∙◌, inl, inr, arith}
-use Rattle.std.proofs.lemmas.Bool.{and_parts, and_from, lt-ltb, ltb-true, eqb-true, eq-eqb, cases_Bool, or_cases, false≢true}
-use Rattle.std.proofs.lemmas.Bool.Decides.{nat_tests}
+use Rattle.std.proofs.Common.{◌≡◌, ℕ, ◌+◌, ◌*◌, ◌/◌, ◌%◌, ◌<◌, ◌≤◌, Bool, true, false, cond, ◌&&◌, ◌||◌, eqb, leb, List, [], ◌∷◌, length, is_some, Some, None, Option, sym, refl, ◌∙◌, inl, inr, arith}
+use Rattle.std.proofs.lemmas.Bool.{and_parts, and_from, lt-ltb, ltb-true, eqb-true, eq-eqb, or_cases, false≢true}
 use Rattle.code.specs.Kinds.{Entry, own, has_field, among, listed, operator_maps, formula_kinds, slot_kinds}
 use Rattle.code.specs.Rows.{Fields}
 use Rattle.code.specs.Writing.{row_bytes, body_bytes, map_byte, bit_of}
-use Rattle.fields.specs.InUse.{in_use, below_given}
+use Rattle.fields.specs.InUse.{in_use}
 use Rattle.records.specs.Keeping.{Stands, Bytes, Keeps, passes, short}
 use Rattle.records.specs.Laws.{ReadsWritings}
-use Rattle.fields.specs.Reading.{Read, got, bad, then, byte}
+use Rattle.fields.specs.Reading.{Read, got, bad, byte}
 use Rattle.fields.specs.Operands.{same_class}
 use Rattle.records.specs.Records.{fields_at, record_at}
 use Rattle.fields.specs.declared.limits.Limits.{Limits}
-use Rattle.records.proofs.Codec.{Codec, never, then_elim, byte_codec}
+use Rattle.records.proofs.Codec.{never, then_elim, byte_codec}
 use Rattle.records.proofs.Rows.{Body, body_sound, body_complete}
 use Rattle.records.proofs.Stands.{stands_next, stands_front, stands_back}
 

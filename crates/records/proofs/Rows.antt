@@ -1,16 +1,16 @@
 -- A record is read exactly where its writing stands and it keeps the rules.
-use Rattle.std.proofs.Common.{◌≡◌, ℕ, ◌+◌, ◌*◌, ◌/◌, ◌%◌, ◌<◌, ◌≤◌, Bool, true, false, cond, ◌&&◌, ◌||◌, eqb, ltb, leb, List, [], ◌∷◌, ◌++◌, length, get_or, take, drop, is_some, Some, None, Option, sym, refl, ap, ◌∙◌, subst, ap₂, arith, length-append}
-use Rattle.code.specs.Kinds.{own, has_field}
+use Rattle.std.proofs.Common.{◌≡◌, ℕ, ◌+◌, Bool, true, cond, ◌&&◌, ltb, List, ◌++◌, length, is_some, refl, arith, length-append}
+use Rattle.code.specs.Kinds.{has_field}
 use Rattle.code.specs.Rows.{Fields}
 use Rattle.code.specs.Writing as writing
 use Rattle.code.specs.Writing.{two_bytes, body_bytes}
 use Rattle.fields.specs.InUse.{in_use, below_given}
 use Rattle.records.specs.Keeping.{Stands, Bytes, passes, short, eight}
-use Rattle.fields.specs.Reading.{Read, got, bad, then, part, if_there}
+use Rattle.fields.specs.Reading.{got, part, if_there}
 use Rattle.fields.specs.Operands.{operand, source, target, slot, same_class}
 use Rattle.records.specs.Records.{fields_at}
 use Rattle.fields.specs.declared.limits.Limits.{Limits}
-use Rattle.records.proofs.Codec.{Codec, then_elim, got_value, got_place, if_there_sound, if_there_complete}
+use Rattle.records.proofs.Codec.{then_elim, got_value, got_place, if_there_sound, if_there_complete}
 use Rattle.records.proofs.FieldCodecs.{operand_codec, target_codec, slot_codec, source_codec, eight_codec}
 use Rattle.records.proofs.Stands.{stands_next, stands_front, stands_back}
 

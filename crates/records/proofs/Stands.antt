@@ -1,6 +1,6 @@
 -- Bytes that stand in an input, one part behind the other.
-use Rattle.std.proofs.Common.{◌≡◌, ℕ, ◌+◌, ◌*◌, ◌/◌, ◌%◌, ◌<◌, ◌≤◌, List, [], ◌∷◌, ◌++◌, length, get_or, take, drop, sym, refl, ap, ◌∙◌, ap₂, le_refl, arith, length-append, length-drop, length-take, take-add}
-use Rattle.std.proofs.lemmas.List.{drop-drop, take-take, take_at, drop_at, drop-take, drop_more, take-append-le, get_or-drop, get_or-take}
+use Rattle.std.proofs.Common.{◌≡◌, ℕ, ◌+◌, ◌<◌, ◌≤◌, List, [], ◌∷◌, ◌++◌, length, get_or, take, drop, sym, refl, ap, ◌∙◌, ap₂, arith, length-append, length-drop, length-take, take-add}
+use Rattle.std.proofs.lemmas.List.{drop-drop, take-take, take_at, drop_at, drop-take, drop_more, get_or-drop, get_or-take}
 use Rattle.records.specs.Keeping.{Stands}
 
 module _ (input : List ℕ) (at : ℕ) (xs ys : List ℕ) where

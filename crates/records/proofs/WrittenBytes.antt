@@ -1,8 +1,8 @@
 -- What is written consists of bytes.
-use Rattle.std.proofs.Common.{◌≡◌, ℕ, zero, suc, ◌+◌, ◌/◌, ◌%◌, ◌<◌, Bool, true, false, ◌&&◌, eqb, ltb, List, [], ◌∷◌, ◌++◌, length, get_or, Some, None, Option, refl, arith}
+use Rattle.std.proofs.Common.{◌≡◌, ℕ, zero, suc, ◌/◌, ◌%◌, ◌<◌, Bool, true, eqb, ltb, List, [], ◌∷◌, ◌++◌, length, Some, None, Option, refl, arith}
 use Rattle.std.proofs.lemmas.Bool.{and_parts, and_from, lt-ltb, ltb-true}
 use Rattle.code.specs.Rows.{Fields}
-use Rattle.code.specs.Writing.{two_bytes, if_there, row_bytes, rows_bytes, map_byte}
+use Rattle.code.specs.Writing.{two_bytes, if_there, row_bytes, map_byte}
 use Rattle.records.specs.Keeping.{Bytes, Keeps, all_bytes, passes, short, eight}
 use Rattle.fields.specs.declared.limits.Limits.{Limits}
 use Rattle.records.proofs.RoundTrip.{map_small}

@@ -1,5 +1,5 @@
 -- The rules that one record keeps, apart from how it is read.
-use Rattle.std.specs.Prelude.{◌≡◌, ℕ, ◌<◌, Bool, true, false, cond, ◌&&◌, ltb, List, [], ◌∷◌, length, take, drop, is_some, Some, None, Option, ◌==◌, nat_lt, slice_index}
+use Rattle.std.specs.Prelude.{◌≡◌, ℕ, ◌<◌, Bool, true, ◌&&◌, ltb, List, [], ◌∷◌, length, take, drop, is_some, Some, None, Option, ◌==◌, nat_lt, slice_index}
 use Rattle.code.specs.Kinds.{own}
 use Rattle.code.specs.Rows.{Fields}
 use Rattle.code.specs.Writing.{map_byte}

@@ -1,5 +1,5 @@
 -- What the reader's calls answer, as readings.
-use Rattle.std.specs.Prelude.{ℕ, List, Some, None, Ok, Err, Option, Result}
+use Rattle.std.specs.Prelude.{ℕ, Ok, Err, Result}
 use Rattle.std.specs.Option.{option_map}
 use Rattle.code.specs.Rows.{Fields, fields}
 use Rattle.code.specs.declared.row.Row.{Row}

@@ -1,5 +1,5 @@
 -- How a record is read: map and kind, then each field that the map has, in order, each read and then checked before the next.
-use Rattle.std.specs.Prelude.{ℕ, ◌+◌, Bool, cond, List, is_some, ◌==◌}
+use Rattle.std.specs.Prelude.{ℕ, Bool, cond, List, is_some, ◌==◌}
 use Rattle.code.specs.Kinds.{own, has_field}
 use Rattle.code.specs.Rows.{Fields}
 use Rattle.fields.specs.Operands.{operand, source, target, slot}

@@ -1,9 +1,8 @@
 -- A run that goes on by one call. Assumes nothing.
-use Rattle.std.proofs.Common.{◌≡◌, ℕ, ◌+◌, ◌<◌, ◌≤◌, List, [], ◌∷◌, ◌++◌, map, length, get_or, take, drop, set, sym, refl, ap, ◌∙◌, subst, ap₂, arith}
-use Rattle.std.proofs.lemmas.List.{map_more, map_push, take_more_set, drop-set-lt, drop-set, drop_more, take_all, length-set}
+use Rattle.std.proofs.Common.{◌≡◌, ℕ, ◌+◌, ◌<◌, List, [], ◌∷◌, ◌++◌, map, length, get_or, take, drop, set, sym, ap, ◌∙◌, ap₂, arith}
+use Rattle.std.proofs.lemmas.List.{map_more, map_push, take_more_set, drop-set-lt, drop_more}
 use Rattle.session_laws.specs.Base.{Base}
 use Rattle.session_laws.specs.State.{State, opened}
-use Rattle.session_laws.specs.Calls.{Outcome, Call as RuleCall}
 use Rattle.session_laws.specs.Outcomes.{outcome}
 use Rattle.session_laws.specs.Runs.{called, after, outcomes}
 use Rattle.session_laws.proofs.Runs.{after_more, outcomes_more}

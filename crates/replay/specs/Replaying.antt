@@ -1,5 +1,5 @@
 -- What calls and answers mean. Assumes nothing.
-use Rattle.std.specs.Prelude.{◌≡◌, ℕ, ◌<◌, List, map, length, take, drop, Ok, Err, Result}
+use Rattle.std.specs.Prelude.{◌≡◌, ◌<◌, List, map, length, take, drop, Ok, Err, Result}
 use Rattle.kept.specs.Answers.{number_of}
 use Rattle.kept.specs.declared.refusal.Refusal.{Refusal}
 use Rattle.session_laws.specs.Base.{Opening}

@@ -1,7 +1,7 @@
 -- Tables by which a graph is looked at. Assumes nothing.
-use Rattle.std.proofs.Common.{◌≡◌, ℕ, ◌+◌, ◌<◌, ◌≤◌, Bool, true, false, cond, ◌&&◌, ltb, leb, List, length, get_or, set, Some, None, Option, sym, refl, ap, ◌∙◌, subst, ap₂, inl, inr, arith, length-set}
+use Rattle.std.proofs.Common.{◌≡◌, ℕ, ◌+◌, ◌<◌, ◌≤◌, Bool, false, ◌&&◌, ltb, leb, List, length, get_or, set, None, Option, sym, ap, ◌∙◌, ap₂, inl, inr, arith, length-set}
 use mathlib.Core.Path.{fun_ext}
-use Rattle.std.proofs.lemmas.Bool.{cases_lt, lt-leb, le-ltb, and_parts, leb-true}
+use Rattle.std.proofs.lemmas.Bool.{cases_lt, le-ltb, and_parts, leb-true}
 use Rattle.std.proofs.lemmas.Bool.Decides.{nat_tests}
 use Rattle.std.proofs.lemmas.List.{get_or-set_same, get_or-set_other, get_or_past}
 use Rattle.graph.specs.Shape.{Shape, Lawful}
@@ -10,8 +10,8 @@ use Rattle.graph.specs.declared.class.Class.{Class}
 use Rattle.graph.specs.declared.class.Class.TheVariants.{Zero, One}
 use Rattle.board.specs.Boards.{opened_graph}
 use Rattle.board.specs.declared.board.Board.{Board}
-use Rattle.session_laws.specs.Bank.{Usable, first_of, among, is_register, classes_under}
-use Rattle.session_laws.specs.Base.{Base, SoundBase, base_of}
+use Rattle.session_laws.specs.Bank.{first_of, is_register, classes_under}
+use Rattle.session_laws.specs.Base.{SoundBase, base_of}
 use Rattle.session_laws.proofs.Openings.{base_sound}
 use Rattle.standing.specs.Sound.{base_over}
 use Rattle.views.specs.declared.class.ClassView.{ClassView}

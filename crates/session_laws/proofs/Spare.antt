@@ -1,12 +1,12 @@
 -- A group with a temporary is never pushed, so it always has a register to spare. Assumes nothing.
-use Rattle.std.proofs.Common.{◌≡◌, ℕ, ◌<◌, ◌≤◌, min, max, Bool, true, false, cond, not, ◌&&◌, ◌||◌, eqb, List, [], ◌∷◌, sym, refl, ◌∙◌, inl, inr, arith}
-use Rattle.std.proofs.lemmas.Bool.{cases_Bool, cases_eq, and_parts, and_from, or_cases, or_parts, or_right, or_left, eqb-true, eqb-false, eq-eqb, ne_eqb, both_ways, not_from_false}
-use Rattle.graph.specs.Counting.{count, any}
+use Rattle.std.proofs.Common.{◌≡◌, ℕ, ◌<◌, ◌≤◌, min, max, Bool, true, false, not, ◌&&◌, eqb, List, [], ◌∷◌, sym, refl, ◌∙◌, inl, inr, arith}
+use Rattle.std.proofs.lemmas.Bool.{cases_Bool, cases_eq, and_parts, and_from, or_cases, or_parts, or_right, or_left, eqb-true, eqb-false, eq-eqb, both_ways, not_from_false}
+use Rattle.graph.specs.Counting.{count}
 use Rattle.graph.specs.Shape.{Shape}
 use Rattle.graph.specs.Views.{merged_view}
 use Rattle.session_laws.specs.Bank.{among}
 use Rattle.session_laws.specs.Base.{Base, SoundBase, fixed}
-use Rattle.session_laws.specs.State.{State, opened, listed, standing_graph, merged_graph, holds_temporary}
+use Rattle.session_laws.specs.State.{State, listed, merged_graph, holds_temporary}
 use Rattle.session_laws.specs.Calls.{Call, Outcome, refused, noted, marked, simplified, frozen, pushed, together, apart, merged, coloured}
 use Rattle.session_laws.specs.Colouring.{none, lowest_free, giving, painted, own_number, group_register, register_of}
 use Rattle.session_laws.specs.Grounds.{GrantedOn, ColouredOn}

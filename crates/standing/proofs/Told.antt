@@ -1,5 +1,5 @@
 -- Taking facts out of where only their being there is told. Assumes nothing.
-use Rattle.std.proofs.Common.{◌≡◌, ℕ}
+use Rattle.std.proofs.Common.{ℕ}
 use Rattle.numbers.specs.declared.number_set.NumberSet.{NumberSet}
 use Rattle.board.specs.declared.board.Board.{Board}
 use Rattle.board.proofs.Untold.{told_test, told_most, told_lawful}

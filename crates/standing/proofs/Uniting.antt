@@ -1,12 +1,12 @@
 -- A standing graph after a merge. Assumes nothing.
-use Rattle.std.proofs.Common.{◌≡◌, ℕ, true, false, not, eqb, sym, refl, ap, ◌∙◌, ap₂, arith}
+use Rattle.std.proofs.Common.{◌≡◌, ℕ, true, not, eqb, ap, ◌∙◌, ap₂, arith}
 use Rattle.std.proofs.lemmas.Bool.{eqb-false, not-true}
 use Rattle.graph.specs.Shape.{Shape}
 use Rattle.graph.specs.Views.{merged_view}
 use Rattle.board.specs.Boards.{opened_graph, table_of, merged_graph, TwoGroups}
 use Rattle.board.specs.declared.board.Board.{Board}
 use Rattle.board.proofs.Boards.{opened_lawful}
-use Rattle.session_laws.specs.Base.{Base, SoundBase}
+use Rattle.session_laws.specs.Base.{SoundBase}
 use Rattle.session_laws.specs.Runs.{united}
 use Rattle.session_laws.proofs.Counts.{but_from}
 use Rattle.session_laws.proofs.Rows.{stands_now}

@@ -1,5 +1,5 @@
 -- What a standing graph means. Assumes nothing.
-use Rattle.std.specs.Prelude.{ℕ, Bool, not, ◌&&◌, ◌||◌, List, ◌==◌, nat_lt, slice_index}
+use Rattle.std.specs.Prelude.{ℕ, Bool, not, ◌&&◌, List, ◌==◌, nat_lt, slice_index}
 use Rattle.graph.specs.Shape.{Shape, degree}
 use Rattle.graph.specs.Views.{keeping}
 use Rattle.numbers.specs.Sets.{has}

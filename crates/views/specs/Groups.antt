@@ -1,5 +1,5 @@
 -- Merge tables: which group each number is in, by the name of the group. Assumes nothing.
-use Rattle.std.specs.Prelude.{◌≡◌, ℕ, min, max, Bool, true, false, cond, ◌&&◌, List, ◌==◌, nat_le, nat_lt, slice_index_or}
+use Rattle.std.specs.Prelude.{ℕ, min, max, Bool, cond, ◌&&◌, List, ◌==◌, nat_le, nat_lt, slice_index_or}
 
 -- the name of the group that v is in; a number past the end is alone
 abbrev pub group_at : List ℕ → ℕ → ℕ

@@ -1,5 +1,5 @@
 -- What the arrays of the views say of each number, and the views by them. Assumes nothing.
-use Rattle.std.specs.Prelude.{ℕ, Bool, true, false, List, None, Option, slice_index_or}
+use Rattle.std.specs.Prelude.{ℕ, Bool, false, List, None, Option, slice_index_or}
 use Rattle.graph.specs.Shape.{Shape}
 use Rattle.graph.specs.Views.{class_view, clique_view, merged_view, removed_view}
 use Rattle.graph.specs.declared.class.Class.{Class}

@@ -1,9 +1,6 @@
-use Rattle.std.proofs.Common.{◌≡◌, ℕ, ◌<◌, ◌≤◌, true, false, ◌&&◌, ◌||◌, sym, refl, ap, ◌∙◌, subst, arith}
+use Rattle.std.proofs.Common.{sym, ◌∙◌, subst}
 use Rattle.graph.specs.Shape.{Shape, Lawful}
-use Rattle.numbers.specs.Sets.{has}
-use Rattle.numbers.specs.declared.number_set.NumberSet.{NumberSet}
-use Rattle.session_laws.proofs.Cores.{far_inside}
-use Rattle.reading.proofs.Reading.{ReadBelow, read_then, read_else, read_start, read_all, rows_then, rows_else, rows_at, rows_start, rows_all, not_standing, snapshot_is}
+use Rattle.reading.proofs.Reading.{snapshot_is}
 use Rattle.reading.proofs.board_of.Goals as goal
 
 pub new-requires : goal.new-requires

@@ -1,4 +1,4 @@
-use Rattle.std.proofs.Common.{◌≡◌, ℕ, ◌<◌, Bool, ◌||◌, length, get_or, sym, refl, ap, ◌∙◌, arith, length-set}
+use Rattle.std.proofs.Common.{ℕ, ◌<◌, Bool, ◌||◌, length, get_or, sym, ap, ◌∙◌, arith, length-set}
 use mathlib.Core.Path.{fun_ext}
 use Rattle.numbers.specs.Sets.{has}
 use Rattle.board.specs.Rows.{row_has, spread_to}

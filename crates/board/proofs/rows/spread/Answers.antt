@@ -1,10 +1,10 @@
-use Rattle.std.proofs.Common.{◌≡◌, ℕ, ◌<◌, ◌≤◌, true, not, ◌&&◌, ◌||◌, eqb, ltb, length, sym, refl, ap, ◌∙◌, arith}
+use Rattle.std.proofs.Common.{◌≡◌, ◌<◌, true, not, ◌&&◌, ◌||◌, eqb, ltb, length, sym, ap, ◌∙◌, arith}
 use Rattle.std.proofs.lemmas.Bool.{lt-ltb}
 use Rattle.numbers.specs.Sets.{has}
 use Rattle.numbers.proofs.Sets.{has_large}
 use Rattle.board.specs.Rows.{row_has}
 use Rattle.board.proofs.Lookup.{row_at}
-use Rattle.board.proofs.Spreading.{Spread, spread_skip, spread_turn, spread_all}
+use Rattle.board.proofs.Spreading.{spread_skip, spread_turn, spread_all}
 use Rattle.board.proofs.rows.spread.Goals as goal
 use Rattle.board.proofs.rows.spread.Goals.{then-contains, else-contains}
 

@@ -1,19 +1,10 @@
-use Rattle.std.proofs.Common.{◌≡◌, ℕ, ◌+◌, ◌-◌, ◌<◌, ◌≤◌, Bool, true, false, not, ◌&&◌, ◌||◌, eqb, ltb, List, length, get_or, drop, set, Option, sym, refl, ap, ◌∙◌, subst, ap₂, inl, inr, arith, length-set}
-use mathlib.Core.Path.{fun_ext}
-use Rattle.board.specs.Boards.{opened_graph, table_of, merged_graph}
-use Rattle.board.specs.declared.board.Board.{Board}
-use Rattle.graph.specs.Counting.{any, first}
-use Rattle.graph.specs.Shape.{Shape}
+use Rattle.std.proofs.Common.{◌≡◌, ℕ, ◌+◌, ◌-◌, ◌≤◌, Bool, true, false, not, sym, ap, ◌∙◌, ap₂, arith}
+use Rattle.graph.specs.Counting.{first}
 use Rattle.numbers.specs.Sets.{has}
-use Rattle.session_laws.specs.Base.{fixed}
-use Rattle.session_laws.specs.Colouring.{own_number, painted, taken, lowest_free, or_none, giving}
-use Rattle.session_laws.proofs.Pairs.{fixed_low}
-use Rattle.standing.specs.Standing.{base_of, board_of, graph_of, fixed_in}
-use Rattle.standing.proofs.Shapes.{base_sound, bank_small, graph_lawful}
-use Rattle.std.proofs.lemmas.Bool.{cases_lt, cases_eq, cases_Bool, both_ways, cond-true, cond-false, ltb-true, ltb-false, not-true, not-false, not_from_true, not_from_false}
-use Rattle.std.proofs.lemmas.List.{get_or-set_same, get_or-set_other, get_or_past, get_or_default, drop-set-lt}
-use Rattle.colouring.specs.Painting.{merged_under, read_at, member_register}
-use Rattle.colouring.proofs.Registers.{none_given, given_now, painted_step, painted_end, used_then, used_else}
+use Rattle.session_laws.specs.Colouring.{or_none}
+use Rattle.standing.specs.Standing.{base_of}
+use Rattle.standing.proofs.Shapes.{bank_small}
+use Rattle.std.proofs.lemmas.Bool.{not_from_true, not_from_false}
 use Rattle.graph.proofs.Counting.{first_here, first_later, first_none}
 use Rattle.colouring.proofs.painting.lowest_free.Goals as goal
 

@@ -1,4 +1,4 @@
-use Rattle.std.proofs.Common.{◌≡◌, ℕ, ◌+◌, ◌-◌, ◌≤◌, not}
+use Rattle.std.proofs.Common.{◌≡◌, ◌+◌, ◌-◌, not}
 use Rattle.graph.specs.Counting.{first}
 use Rattle.numbers.specs.Sets.{has}
 use Rattle.standing.specs.Standing.{base_of}

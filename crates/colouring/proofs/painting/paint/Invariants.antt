@@ -1,4 +1,4 @@
-use Rattle.std.proofs.Common.{◌≡◌, ℕ, length, drop}
+use Rattle.std.proofs.Common.{◌≡◌, length, drop}
 use Rattle.session_laws.specs.Colouring.{own_number, painted}
 use Rattle.standing.specs.Standing.{base_of}
 use Rattle.colouring.specs.Painting.{read_at, merged_under}

@@ -1,4 +1,4 @@
-use Rattle.std.proofs.Common.{◌≡◌, ◌+◌, ◌<◌, length, sym, arith}
+use Rattle.std.proofs.Common.{◌+◌, ◌<◌, length, sym, arith}
 use Rattle.graph.proofs.Counting.{first_found}
 use Rattle.edges.specs.Table.{stops}
 use Rattle.edges.proofs.probing.slot_for.Goals as goal

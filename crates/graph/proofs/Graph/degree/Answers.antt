@@ -1,4 +1,4 @@
-use Rattle.std.proofs.Common.{◌≡◌, ℕ, Bool, sym, ◌∙◌, arith}
+use Rattle.std.proofs.Common.{ℕ, Bool, sym, ◌∙◌, arith}
 use Rattle.graph.proofs.Counting.{count_le, count_passed, count_failed}
 use Rattle.graph.proofs.Graph.degree.Goals as goal
 use Rattle.graph.proofs.Graph.degree.Goals.{then-joined, else-joined}

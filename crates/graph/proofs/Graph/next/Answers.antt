@@ -1,5 +1,4 @@
-use Rattle.std.proofs.Common.{◌≡◌, ℕ, ◌-◌, Bool, sym, ◌∙◌}
-use Rattle.graph.specs.Counting.{first}
+use Rattle.std.proofs.Common.{ℕ, Bool, sym, ◌∙◌}
 use Rattle.graph.proofs.Counting.{first_here, first_later}
 use Rattle.graph.proofs.Graph.next.Goals as goal
 

@@ -1,7 +1,7 @@
-use Rattle.std.proofs.Common.{◌≡◌, ℕ, List, length, Err, sym, refl, ap, ◌∙◌, subst, arith}
+use Rattle.std.proofs.Common.{◌≡◌, ℕ, length, Err, sym, refl, ap, ◌∙◌, subst, arith}
 use Rattle.std.proofs.lemmas.Result.{err_from_is_err_and}
 use Rattle.code.specs.Codes.{rows_of}
-use Rattle.allocation.specs.Interference.{Edge, edges_below, row_edges, edges_of, Filled, live_after}
+use Rattle.allocation.specs.Interference.{edges_below, row_edges, edges_of, Filled, live_after}
 use Rattle.allocation.proofs.Living.{after_decides, same_test}
 use Rattle.liveness.specs.Found.{after_of}
 use Rattle.joining.specs.Chains.JoinedOn.{unchanged}

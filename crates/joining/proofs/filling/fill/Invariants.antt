@@ -1,4 +1,3 @@
-use Rattle.std.proofs.Common.{◌≡◌, length}
 use Rattle.code.specs.Codes.{rows_of}
 use Rattle.allocation.specs.Interference.{edges_below}
 use Rattle.joining.specs.Chains.{JoinedOn}

@@ -1,6 +1,6 @@
-use Rattle.std.proofs.Common.{◌≡◌, ℕ, List, [], sym, refl, ap, ◌∙◌}
+use Rattle.std.proofs.Common.{ℕ, List, sym, ap, ◌∙◌}
 use Rattle.code.specs.Codes.{rows_of}
-use Rattle.code.specs.Rows.{Fields, fields}
+use Rattle.code.specs.Rows.{fields}
 use Rattle.numbers.specs.Sets.{has}
 use Rattle.allocation.specs.Interference.{Edge, row_edges, filled}
 use Rattle.joining.specs.Chains.JoinedOn.{unchanged}

@@ -1,9 +1,9 @@
-use Rattle.std.proofs.Common.{◌≡◌, ℕ, List, map, Err, sym, refl, ap, ◌∙◌, arith}
+use Rattle.std.proofs.Common.{◌≡◌, map, Err, sym, refl, ap, ◌∙◌, arith}
 use Rattle.std.proofs.lemmas.Result.{err_from_is_err_and}
 use Rattle.numbers.specs.Sets.{has}
-use Rattle.allocation.specs.Interference.{Edge, edge, passing, cond_one, Filled}
+use Rattle.allocation.specs.Interference.{edge, passing, cond_one, Filled}
 use Rattle.joining.specs.Chains.JoinedOn.{unchanged}
-use Rattle.joining.proofs.Lists.{SoFar, goes_on, stops, passing_grows, joined_then}
+use Rattle.joining.proofs.Lists.{goes_on, stops, passing_grows, joined_then}
 use Rattle.joining.proofs.filling.join_all.Goals as goal
 
 pub loop-v-init : goal.loop-v-init

@@ -1,4 +1,4 @@
-use Rattle.std.proofs.Common.{◌≡◌, refl, arith}
+use Rattle.std.proofs.Common.{refl}
 use Rattle.matrix.specs.Layout.{triangle}
 use Rattle.matrix.proofs.Triangle.{square_ge, triangle_most}
 use Rattle.matrix.proofs.bits.row_start.Goals as goal

@@ -1,4 +1,4 @@
-use Rattle.std.proofs.Common.{◌≡◌, ℕ, ◌+◌, sym, ap, ◌∙◌, arith}
+use Rattle.std.proofs.Common.{ℕ, ◌+◌, sym, ap, ◌∙◌, arith}
 use Rattle.graph.proofs.Counting.{first_here, first_later}
 use Rattle.matrix.specs.Layout.{bit_at}
 use Rattle.matrix.specs.Rows.{above}

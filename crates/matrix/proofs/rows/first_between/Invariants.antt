@@ -1,4 +1,4 @@
-use Rattle.std.proofs.Common.{◌≡◌, ◌-◌, ◌≤◌}
+use Rattle.std.proofs.Common.{◌≡◌, ◌-◌}
 use Rattle.graph.specs.Counting.{first}
 use Rattle.matrix.specs.Layout.{bit_at}
 use Rattle.matrix.proofs.rows.first_between.Given as goal

@@ -1,4 +1,4 @@
-use Rattle.std.proofs.Common.{◌≡◌, ℕ, ◌+◌, sym, ap, ◌∙◌, arith}
+use Rattle.std.proofs.Common.{ℕ, ◌+◌, sym, ap, ◌∙◌, arith}
 use Rattle.matrix.specs.Layout.{bit_at}
 use Rattle.matrix.specs.Rows.{above}
 use Rattle.matrix.proofs.Along.{between_le, between_passed, between_failed}

@@ -1,5 +1,5 @@
-use Rattle.std.proofs.Common.{◌≡◌, ℕ, ◌+◌, ◌-◌, ◌/◌, ◌%◌, ◌<◌, ◌≤◌, true, eqb, leb, get_or, sym, ◌∙◌, arith}
-use lib.Count.{ones, ones-le}
+use Rattle.std.proofs.Common.{ℕ, ◌+◌, ◌/◌, ◌%◌, ◌≤◌, eqb, leb, get_or, sym, ◌∙◌, arith}
+use lib.Count.{ones-le}
 use Rattle.std.proofs.lemmas.Bool.{and_parts, eqb-true, leb-true}
 use Rattle.matrix.specs.Layout.{bit_at}
 use Rattle.matrix.proofs.Along.{between_le, between_byte, between_passed, between_failed}

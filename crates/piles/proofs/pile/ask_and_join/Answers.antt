@@ -2,8 +2,7 @@ use mathlib.Core.Path.{◌≡◌, sym, ◌∙◌, ap}
 use Prim.Native.Nat.{ℕ}
 use Rattle.graph.specs.Shape.{Meaning, degree, next}
 use Rattle.graph.specs.Joining.{join_answer, join_meaning}
-use Rattle.graph.specs.Views.{over}
-use Rattle.piles.specs.Piles.{pile_of, looks_of, graph_of}
+use Rattle.piles.specs.Piles.{looks_of, graph_of}
 use Rattle.piles.proofs.Below.{pile_kept, pile_below, pile_means}
 use Rattle.piles.proofs.pile.ask_and_join.Goals as goal
 

@@ -1,10 +1,9 @@
-use Rattle.std.proofs.Common.{◌≡◌, ℕ, ◌+◌, ◌<◌, ◌≤◌, List, map, length, get_or, take, drop, sym, refl, ap, ◌∙◌, subst, ap₂, arith}
+use Rattle.std.proofs.Common.{◌≡◌, ℕ, List, map, length, get_or, refl, ap, ◌∙◌, subst, ap₂, arith}
 use Rattle.std.proofs.lemmas.List.{take_all}
 use Rattle.kept.specs.Kept.{base_of, state_of}
 use Rattle.session.specs.Banks.{opening_over}
 use Rattle.session.proofs.Tables.{registers_few}
-use Rattle.session_laws.specs.Base.{Base, base_of as base_under}
-use Rattle.session_laws.specs.Calls.{Call as RuleCall}
+use Rattle.session_laws.specs.Base.{Base}
 use Rattle.session_laws.specs.Outcomes.{outcome}
 use Rattle.session_laws.specs.Runs.{called, outcomes}
 use Rattle.session_laws.specs.State.{opened}
@@ -12,7 +11,6 @@ use Rattle.session_laws.proofs.Laws.{runs_keep}
 use Rattle.replay.specs.Replaying.{call_of, answer_of}
 use Rattle.replay.specs.declared.calls.Call.{Call}
 use Rattle.replay.specs.declared.calls.Call.TheVariants.{Note}
-use Rattle.replay.specs.declared.calls.Answer.{Answer}
 use Rattle.replay.proofs.Replays.{one_more, RunSoFar}
 use Rattle.replay.proofs.running.replay.Goals as goal
 

@@ -1,4 +1,4 @@
-use Rattle.std.proofs.Common.{◌≡◌, ℕ, ◌+◌, List, sym, subst}
+use Rattle.std.proofs.Common.{ℕ, ◌+◌, List, sym, subst}
 use Rattle.views.proofs.Renaming.{Renaming, renaming_hit, renaming_miss}
 use Rattle.views.proofs.merge_table.rename.Goals as goal
 use Rattle.views.proofs.merge_table.rename.Goals.{then-to-w, else-to-w}

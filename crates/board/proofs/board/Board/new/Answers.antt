@@ -1,4 +1,4 @@
-use Rattle.std.proofs.Common.{◌≡◌, ℕ, sym, refl, ap, ◌∙◌}
+use Rattle.std.proofs.Common.{ℕ, sym, refl, ap, ◌∙◌}
 use Rattle.graph.specs.Views.{merged_view}
 use Rattle.board.specs.Sound.{snapshot}
 use Rattle.board.specs.Boards.{opened_graph, table_of}

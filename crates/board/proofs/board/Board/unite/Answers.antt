@@ -1,4 +1,4 @@
-use Rattle.std.proofs.Common.{◌≡◌, sym, refl, ap, ◌∙◌}
+use Rattle.std.proofs.Common.{refl, ◌∙◌}
 use Rattle.board.specs.Boards.{opened_graph, table_of}
 use Rattle.board.proofs.Uniting.{high_inside, table_united, united_sound}
 use Rattle.board.proofs.board.Board.unite.Goals as goal

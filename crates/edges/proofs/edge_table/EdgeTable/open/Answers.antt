@@ -1,7 +1,6 @@
-use Rattle.std.proofs.Common.{◌≡◌, ℕ, ◌≤◌, List, length, replicate, Ok, sym, refl, ap, ◌∙◌, subst, arith}
-use Rattle.std.proofs.lemmas.Bool.Decides.{nat_tests}
+use Rattle.std.proofs.Common.{◌≡◌, ℕ, length, replicate, sym, refl, ap, ◌∙◌, subst, arith}
 use lib.ListN.{length-replicate}
-use Rattle.edges.specs.Table.{table_meaning, table_opening, pairs_in, filled, Fit}
+use Rattle.edges.specs.Table.{table_meaning, pairs_in, filled}
 use Rattle.edges.proofs.Finding.{Gapless}
 use Rattle.edges.proofs.Joining.{empty_gapless, empty_pairs, empty_filled, empty_meaning, granted_fit}
 use Rattle.edges.proofs.edge_table.EdgeTable.open.Goals as goal

@@ -1,4 +1,4 @@
-use Rattle.std.proofs.Common.{◌≡◌, ap}
+use Rattle.std.proofs.Common.{ap}
 use Rattle.edges.specs.Table.{empty_table}
 use Rattle.edges.proofs.reopening.EdgeTableFresh.renew.Goals as goal
 

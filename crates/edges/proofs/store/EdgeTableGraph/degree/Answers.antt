@@ -1,4 +1,4 @@
-use Rattle.std.proofs.Common.{◌≡◌, ℕ, Bool, sym, ◌∙◌, arith}
+use Rattle.std.proofs.Common.{ℕ, Bool, sym, ◌∙◌, arith}
 use Rattle.graph.proofs.Counting.{count_le, count_passed, count_failed}
 use Rattle.edges.specs.Table.{table_shape}
 use Rattle.edges.proofs.store.EdgeTableGraph.degree.Goals as goal

@@ -1,4 +1,4 @@
-use Rattle.std.proofs.Common.{◌≡◌, ℕ, ◌+◌, ◌*◌, ◌/◌, ◌<◌, ◌≤◌, List, length, set, sym, refl, ap, ◌∙◌, arith}
+use Rattle.std.proofs.Common.{ℕ, ◌+◌, sym, refl, ap, ◌∙◌, arith}
 use Rattle.graph.proofs.Joining.{full_answer, full_meaning, added_answer}
 use Rattle.edges.specs.Table.{table_meaning}
 use Rattle.edges.proofs.Joining.{table_fresh, table_full, table_room, Written, written}

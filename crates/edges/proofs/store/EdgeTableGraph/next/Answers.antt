@@ -1,4 +1,4 @@
-use Rattle.std.proofs.Common.{◌≡◌, ℕ, Bool, sym, ◌∙◌}
+use Rattle.std.proofs.Common.{ℕ, Bool, sym, ◌∙◌}
 use Rattle.graph.proofs.Counting.{first_here, first_later}
 use Rattle.edges.specs.Table.{table_shape}
 use Rattle.edges.proofs.store.EdgeTableGraph.next.Goals as goal

@@ -1,4 +1,4 @@
-use Rattle.std.proofs.Common.{◌≡◌, ◌-◌}
+use Rattle.std.proofs.Common.{◌≡◌}
 use Rattle.graph.specs.Shape.{next}
 use Rattle.edges.specs.Table.{table_shape}
 use Rattle.edges.proofs.store.EdgeTableGraph.next.Given as goal

@@ -1,7 +1,6 @@
-use Rattle.std.proofs.Common.{◌≡◌, ◌<◌, ◌≤◌, length, take, Some, slice_get, sym, ap, ◌∙◌, arith, length-take, get_or-take, rules}
+use Rattle.std.proofs.Common.{◌<◌, ◌≤◌, length, take, Some, slice_get, sym, ap, ◌∙◌, arith, length-take, get_or-take}
 use Rattle.std.proofs.lemmas.Bool.Decides.{nat_tests}
 use Rattle.std.proofs.lemmas.Option.{slice_get_past, slice_get-get_or}
-use Rattle.formula.specs.Outcome.{starts_of}
 use Rattle.formula.proofs.formula.Formula.start.Goals as goal
 
 pub returns-then-not-has_record : goal.returns-then-not-has_record

@@ -1,6 +1,5 @@
-use Rattle.std.proofs.Common.{◌≡◌, sym, refl, ap, ◌∙◌, rules}
+use Rattle.std.proofs.Common.{sym, refl, ◌∙◌, rules}
 use Rattle.std.proofs.lemmas.Result.{err_from_is_err_and}
-use Rattle.fields.specs.Reading.{then, got}
 use Rattle.formula.specs.Formulas.{formula_at}
 use Rattle.formula.specs.Headers.{header_fields}
 use Rattle.formula.proofs.Assembling.{assembled}

@@ -1,4 +1,4 @@
-use Rattle.std.proofs.Common.{◌≡◌, Decides, sym, refl, ap, ◌∙◌, subst}
+use Rattle.std.proofs.Common.{Decides, subst}
 use Rattle.graph.specs.Shape.{Shape}
 use Rattle.session_laws.specs.Base.{fixed}
 use Rattle.session_laws.specs.Emptying.{CanBeEmptied}

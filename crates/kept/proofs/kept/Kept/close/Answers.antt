@@ -1,8 +1,5 @@
-use Rattle.std.proofs.Common.{◌≡◌, ℕ, ◌+◌, ◌-◌, ◌<◌, ◌≤◌, min, max, true, false, not, ◌&&◌, ◌||◌, ◌⊎◌, length, get_or, set, sym, refl, ap, ◌∙◌, subst, ap₂, inl, inr, arith, length-set}
+use Rattle.std.proofs.Common.{◌≡◌, ◌<◌, ◌≤◌, length, set, sym, refl, ◌∙◌, inl, inr, arith, length-set}
 use Rattle.session_laws.specs.Calls.{together, apart}
-use Rattle.session_laws.specs.Grounds.{GrantedOn}
-use Rattle.session_laws.specs.State.{move_at}
-use Rattle.session_laws.specs.Runs.{left_by}
 use Rattle.kept.specs.Kept.{base_of, state_of}
 use Rattle.kept.proofs.After.{closed_state, together_stays, moves_sound, apart_together, apart_stays, open_low}
 use Rattle.kept.proofs.Facts.{sound_of, noted_long}

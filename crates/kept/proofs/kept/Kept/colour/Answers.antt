@@ -1,9 +1,6 @@
-use Rattle.std.proofs.Common.{◌≡◌, ℕ, ◌<◌, ◌≤◌, true, false, length, sym, refl, ap, ◌∙◌, arith}
-use mathlib.Core.Path.{fun_ext}
-use Rattle.session_laws.specs.Calls.{colour, coloured}
-use Rattle.session_laws.specs.Colouring.{register_of}
+use Rattle.std.proofs.Common.{length, sym, refl, ◌∙◌}
+use Rattle.session_laws.specs.Calls.{colour}
 use Rattle.session_laws.specs.Outcomes.{outcome_colour}
-use Rattle.session_laws.specs.Runs.{left_by}
 use Rattle.kept.specs.Kept.{base_of, state_of}
 use Rattle.kept.proofs.Colours.{colour_short, colour_early, colour_granted, coloured_leaves, removed_small, registers_are}
 use Rattle.kept.proofs.Facts.{sound_of}

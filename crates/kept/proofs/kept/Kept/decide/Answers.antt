@@ -1,11 +1,10 @@
-use Rattle.std.proofs.Common.{◌≡◌, ◌⊎◌, Result, sym, refl, ap, ◌∙◌, subst, inl, inr}
+use Rattle.std.proofs.Common.{sym, ap, ◌∙◌, subst, inl, inr}
 use Rattle.session_laws.specs.Grounds.{GrantedOn}
 use Rattle.session_laws.specs.State.{State, move_at}
 use Rattle.session_laws.specs.Runs.{left_by}
-use Rattle.kept.specs.Answers.{merge_answer, merge_says}
+use Rattle.kept.specs.Answers.{merge_says}
 use Rattle.kept.specs.Kept.{base_of, state_of}
 use Rattle.kept.specs.declared.moves.Merge.{Merge}
-use Rattle.kept.specs.declared.refusal.Refusal.{Refusal}
 use Rattle.kept.proofs.After.{apart_together}
 use Rattle.kept.proofs.kept.Kept.decide.Goals as goal
 

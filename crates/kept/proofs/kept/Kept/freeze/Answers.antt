@@ -1,12 +1,8 @@
-use Rattle.std.proofs.Common.{◌≡◌, ℕ, ◌+◌, ◌-◌, ◌<◌, ◌≤◌, true, false, cond, not, ◌&&◌, sym, refl, ap, ◌∙◌, subst, arith}
-use Rattle.std.proofs.lemmas.Bool.{and_parts}
-use Rattle.session_laws.specs.Base.{fixed}
-use Rattle.session_laws.specs.State.{standing_graph}
-use Rattle.session_laws.specs.Calls.{Outcome, refused, freeze, frozen}
-use Rattle.session_laws.specs.Outcomes.{at_vertex, outcome, outcome_freeze}
+use Rattle.std.proofs.Common.{cond, sym, refl, ap, ◌∙◌}
+use Rattle.session_laws.specs.Calls.{refused, freeze, frozen}
+use Rattle.session_laws.specs.Outcomes.{at_vertex, outcome_freeze}
 use Rattle.kept.specs.Kept.{base_of, state_of}
 use Rattle.kept.proofs.After.{granted_on, frozen_state, frozen_stays, moves_sound}
-use Rattle.kept.proofs.Facts.{sound_of, some_room}
 use Rattle.kept.proofs.Verdicts.{granted_leaves, refused_leaves}
 use Rattle.kept.proofs.kept.Kept.freeze.Goals as goal
 

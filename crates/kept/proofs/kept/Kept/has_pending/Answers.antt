@@ -1,4 +1,4 @@
-use Rattle.std.proofs.Common.{◌≡◌, ℕ, ◌<◌, ◌≤◌, length, sym, refl, ap, ◌∙◌, arith}
+use Rattle.std.proofs.Common.{◌≡◌, ◌<◌, length, sym, ap, ◌∙◌, arith}
 use Rattle.graph.specs.Counting.{any}
 use Rattle.graph.proofs.Counting.{any_from, any_more}
 use Rattle.session_laws.specs.State.{waits, move_at}

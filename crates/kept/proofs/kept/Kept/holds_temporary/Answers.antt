@@ -1,4 +1,4 @@
-use Rattle.std.proofs.Common.{◌≡◌, ℕ, ◌<◌, ◌≤◌, true, false, ◌&&◌, eqb, sym, refl, ap, ◌∙◌, ap₂, arith}
+use Rattle.std.proofs.Common.{◌≡◌, ℕ, ◌<◌, ◌&&◌, eqb, sym, refl, ap, ◌∙◌, ap₂, arith}
 use Rattle.graph.specs.Counting.{any}
 use Rattle.graph.proofs.Counting.{any_from, any_more}
 use Rattle.kept.specs.Kept.{base_of, state_of}

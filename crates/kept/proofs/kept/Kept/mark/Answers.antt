@@ -1,4 +1,4 @@
-use Rattle.std.proofs.Common.{◌≡◌, ◌<◌, ◌≤◌, sym, refl, ap, ◌∙◌}
+use Rattle.std.proofs.Common.{sym, refl, ◌∙◌}
 use Rattle.session_laws.specs.Calls.{marked, mark}
 use Rattle.session_laws.specs.Outcomes.{outcome_mark}
 use Rattle.kept.specs.Kept.{base_of, state_of}

@@ -1,6 +1,4 @@
-use Rattle.std.proofs.Common.{◌≡◌, ℕ, ◌≤◌, length, replicate, sym, refl, ap, ◌∙◌, subst, ap₂, arith}
-use mathlib.Core.Path.{fun_ext}
-use Rattle.std.proofs.lemmas.List.{length-replicate}
+use Rattle.std.proofs.Common.{refl}
 use Rattle.kept.specs.Kept.{base_of, state_of}
 use Rattle.kept.proofs.Opening.{opened_state, opened_kept}
 use Rattle.kept.proofs.kept.Kept.new.Goals as goal

@@ -1,6 +1,6 @@
-use Rattle.std.proofs.Common.{◌≡◌, ℕ, ◌+◌, ◌-◌, ◌<◌, ◌≤◌, true, false, not, ◌&&◌, length, sym, refl, ap, ◌∙◌, subst, arith}
-use Rattle.session_laws.specs.Calls.{Outcome, note, noted}
-use Rattle.session_laws.specs.Outcomes.{outcome, outcome_note}
+use Rattle.std.proofs.Common.{◌≡◌, ◌<◌, true, length, sym, refl, ◌∙◌, arith}
+use Rattle.session_laws.specs.Calls.{note, noted}
+use Rattle.session_laws.specs.Outcomes.{outcome_note}
 use Rattle.kept.specs.Kept.{base_of, state_of}
 use Rattle.kept.specs.declared.moves.Move.{Move}
 use Rattle.kept.proofs.After.{granted_on, noted_state, noted_sound}

@@ -1,9 +1,9 @@
-use Rattle.std.proofs.Common.{◌≡◌, ℕ, ◌+◌, ◌-◌, ◌<◌, ◌≤◌, true, false, cond, not, ◌&&◌, sym, refl, ap, ◌∙◌, subst, arith}
+use Rattle.std.proofs.Common.{◌≡◌, ◌-◌, ◌≤◌, true, cond, not, sym, refl, ap, ◌∙◌, arith}
 use Rattle.std.proofs.lemmas.Bool.{and_parts}
 use Rattle.session_laws.specs.Base.{fixed}
 use Rattle.session_laws.specs.State.{standing_graph}
-use Rattle.session_laws.specs.Calls.{Outcome, refused, push, pushed}
-use Rattle.session_laws.specs.Outcomes.{at_vertex, outcome, outcome_push}
+use Rattle.session_laws.specs.Calls.{refused, push, pushed}
+use Rattle.session_laws.specs.Outcomes.{at_vertex, outcome_push}
 use Rattle.kept.specs.Kept.{base_of, state_of}
 use Rattle.kept.proofs.After.{granted_on, pushed_state, pushed_sound}
 use Rattle.kept.proofs.Facts.{sound_of, some_room}

@@ -1,6 +1,6 @@
-use Rattle.std.proofs.Common.{◌≡◌, ℕ, ◌+◌, ◌-◌, ◌<◌, ◌≤◌, min, max, true, false, not, ◌&&◌, ◌||◌, ◌⊎◌, length, get_or, set, sym, refl, ap, ◌∙◌, subst, ap₂, inl, inr, arith, length-set}
+use Rattle.std.proofs.Common.{◌≤◌, length, sym, arith}
 use Rattle.std.proofs.lemmas.Bool.{not-true, not-false}
-use Rattle.kept.specs.Kept.{base_of, state_of}
+use Rattle.kept.specs.Kept.{state_of}
 use Rattle.kept.proofs.Deciding.{merge_none, merge_shut, merge_together, merge_apart, merge_merged, merge_not}
 use Rattle.kept.proofs.Facts.{sound_of}
 use Rattle.kept.proofs.kept.Kept.settle.Goals as goal

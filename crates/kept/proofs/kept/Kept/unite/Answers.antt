@@ -1,12 +1,10 @@
-use Rattle.std.proofs.Common.{◌≡◌, ℕ, ◌+◌, ◌-◌, ◌<◌, ◌≤◌, min, max, true, false, not, ◌&&◌, ◌||◌, eqb, ◌⊎◌, length, get_or, set, sym, refl, ap, ◌∙◌, subst, ap₂, inl, inr, arith, length-set}
-use Rattle.session_laws.specs.Calls.{merged}
-use Rattle.session_laws.specs.State.{move_at, Move}
-use Rattle.board.specs.Boards.{table_of, TwoGroups}
+use Rattle.std.proofs.Common.{◌≡◌, ℕ, ◌<◌, ◌≤◌, min, max, not, ◌&&◌, eqb, length, set, ap, ◌∙◌, ap₂, arith, length-set}
+use Rattle.session_laws.specs.State.{move_at}
+use Rattle.board.specs.Boards.{table_of}
 use Rattle.standing.specs.Standing.{board_of, is_left}
 use Rattle.session_laws.specs.Runs.{united}
 use Rattle.kept.specs.Kept.{base_of, state_of}
-use Rattle.kept.specs.declared.kept.Kept.{Kept}
-use Rattle.kept.proofs.Facts.{sound_of, noted_long, move_is}
+use Rattle.kept.proofs.Facts.{sound_of, noted_long}
 use Rattle.kept.proofs.Moving.{closed_one}
 use Rattle.kept.proofs.Uniting.{ends_are, at_names, two_groups, merged_state, merged_sound}
 use Rattle.kept.proofs.kept.Kept.unite.Goals as goal

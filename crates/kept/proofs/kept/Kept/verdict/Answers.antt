@@ -1,9 +1,7 @@
-use Rattle.std.proofs.Common.{◌≡◌, ◌<◌, ◌≤◌, Bool, true, false, cond, sym, refl, ap, ◌∙◌, arith}
-use Rattle.session_laws.specs.Calls.{Outcome, refused}
-use Rattle.session_laws.specs.Outcomes.{at_vertex}
+use Rattle.std.proofs.Common.{◌<◌, ◌≤◌, sym, ◌∙◌, arith}
+use Rattle.session_laws.specs.Calls.{refused}
 use Rattle.standing.specs.Standing.{graph_of}
 use Rattle.std.proofs.lemmas.Bool.{cond-true, cond-false}
-use Rattle.kept.specs.Kept.{base_of, state_of}
 use Rattle.kept.proofs.Verdicts.{vertex_none, vertex_gone, vertex_there}
 use Rattle.kept.proofs.kept.Kept.verdict.Goals as goal
 

@@ -1,7 +1,7 @@
-use Rattle.std.proofs.Common.{◌≡◌, ℕ, ◌<◌, ◌≤◌, ◌&&◌, ◌||◌, eqb, get_or, sym, refl, ap, ◌∙◌, ap₂, arith}
+use Rattle.std.proofs.Common.{ℕ, ◌≤◌, ◌&&◌, ◌||◌, eqb, get_or, sym, ap, ◌∙◌, ap₂, arith}
 use Rattle.session_laws.specs.State.{waits}
 use Rattle.kept.proofs.Rows.{no_row}
-use Rattle.kept.specs.Kept.{base_of, state_of}
+use Rattle.kept.specs.Kept.{state_of}
 use Rattle.kept.proofs.Facts.{sound_of, move_is}
 use Rattle.kept.proofs.kept.Kept.waits.Goals as goal
 

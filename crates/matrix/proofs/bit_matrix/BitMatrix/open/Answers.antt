@@ -1,4 +1,4 @@
-use Rattle.std.proofs.Common.{◌≡◌, ℕ, List, sym, refl, ap, ◌∙◌}
+use Rattle.std.proofs.Common.{◌≡◌, ℕ, List, refl, ap, ◌∙◌}
 use Rattle.matrix.specs.Layout.{bytes_for, cleared}
 use Rattle.matrix.specs.Matrix.{matrix_meaning}
 use Rattle.matrix.proofs.Clearing.{cleared_meaning}

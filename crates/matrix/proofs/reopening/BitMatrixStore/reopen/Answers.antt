@@ -1,7 +1,6 @@
-use Rattle.std.proofs.Common.{◌≡◌, ℕ, List, length, sym, refl, ap, ◌∙◌}
-use Rattle.graph.specs.Shape.{Meaning}
+use Rattle.std.proofs.Common.{◌≡◌, ℕ, List, length, refl, ap, ◌∙◌}
 use Rattle.graph.specs.Stores.{empty_store, renewed}
-use Rattle.matrix.specs.Layout.{bytes_for, cleared, triangle}
+use Rattle.matrix.specs.Layout.{bytes_for, triangle}
 use Rattle.matrix.specs.Matrix.{matrix_meaning, fits_in}
 use Rattle.matrix.proofs.Clearing.{cleared_length, granted_room}
 use Rattle.matrix.proofs.reopening.BitMatrixStore.reopen.Goals as goal

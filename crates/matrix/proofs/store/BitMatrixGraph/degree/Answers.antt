@@ -1,5 +1,5 @@
-use Rattle.std.proofs.Common.{◌≡◌, ℕ, ◌+◌, ◌-◌, ◌≤◌, sym, ap, ◌∙◌, ap₂, arith}
-use Rattle.matrix.specs.Layout.{triangle, bit_at}
+use Rattle.std.proofs.Common.{ℕ, ◌+◌, ap, ◌∙◌, ap₂, arith}
+use Rattle.matrix.specs.Layout.{bit_at}
 use Rattle.matrix.specs.Rows.{between, above}
 use Rattle.matrix.proofs.Along.{between_le}
 use Rattle.matrix.proofs.Neighbours.{degree_outside, degree_rows, row_end}

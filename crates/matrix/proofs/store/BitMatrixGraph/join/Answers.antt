@@ -1,5 +1,5 @@
-use Rattle.std.proofs.Common.{◌≡◌, ℕ, ◌/◌, ◌<◌, List, sym, refl, ap, ◌∙◌}
-use Rattle.matrix.specs.Matrix.{matrix_shape, matrix_meaning, behind}
+use Rattle.std.proofs.Common.{ℕ, List, refl, ap, ◌∙◌}
+use Rattle.matrix.specs.Matrix.{matrix_meaning, behind}
 use Rattle.matrix.proofs.Adding.{matrix_fresh, matrix_byte, matrix_answer, matrix_after, written_bit, fresh_byte, behind_bit}
 use Rattle.matrix.proofs.store.BitMatrixGraph.join.Goals as goal
 

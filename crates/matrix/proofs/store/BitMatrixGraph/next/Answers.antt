@@ -1,8 +1,6 @@
-use Rattle.std.proofs.Common.{◌≡◌, ℕ, ◌+◌, ◌-◌, ◌≤◌, max, sym, refl, ap, ◌∙◌, arith}
-use Rattle.graph.specs.Counting.{first}
+use Rattle.std.proofs.Common.{◌≡◌, ℕ, ◌+◌, ◌≤◌, max, ap, ◌∙◌, arith}
 use Rattle.graph.specs.Shape.{next}
 use Rattle.matrix.specs.Matrix.{matrix_shape}
-use Rattle.matrix.specs.Rows.{above}
 use Rattle.matrix.proofs.Neighbours.{next_outside, next_found, next_missed, next_from_own, next_above, row_end}
 use Rattle.matrix.proofs.Triangle.{triangle_most}
 use Rattle.matrix.proofs.store.BitMatrixGraph.next.Goals as goal

@@ -1,4 +1,4 @@
-use Rattle.std.proofs.Common.{◌≡◌, ◌-◌, ◌*◌, ◌<◌, ltb, length, ap, ◌∙◌, arith, length-set}
+use Rattle.std.proofs.Common.{◌<◌, ltb, length, ap, ◌∙◌, arith, length-set}
 use Rattle.numbers.specs.Sets.{has}
 use Rattle.numbers.proofs.Rows.{filled, fills_more}
 use Rattle.numbers.proofs.number_set.NumberSet.below.Goals as goal

@@ -1,4 +1,4 @@
-use Rattle.std.proofs.Common.{◌≤◌, sym, arith}
+use Rattle.std.proofs.Common.{sym, arith}
 use Rattle.numbers.specs.Sets.{has}
 use Rattle.numbers.proofs.Counting.{count_zero}
 use Rattle.numbers.proofs.number_set.NumberSet.len.Goals as goal

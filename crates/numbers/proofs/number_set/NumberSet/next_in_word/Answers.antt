@@ -1,4 +1,4 @@
-use Rattle.std.proofs.Common.{◌<◌, ◌≤◌, refl, arith}
+use Rattle.std.proofs.Common.{refl, arith}
 use Rattle.numbers.specs.Sets.{has}
 use Rattle.numbers.proofs.Rows.{empty_rest, found_rest}
 use Rattle.numbers.proofs.number_set.NumberSet.next_in_word.Goals as goal

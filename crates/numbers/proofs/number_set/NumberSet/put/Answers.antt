@@ -1,4 +1,4 @@
-use Rattle.std.proofs.Common.{◌<◌, eqb, ◌∙◌}
+use Rattle.std.proofs.Common.{eqb, ◌∙◌}
 use Rattle.numbers.specs.Sets.{has}
 use Rattle.numbers.proofs.Rows.{member_insert, member_remove, or_cond, and_cond}
 use Rattle.numbers.proofs.number_set.NumberSet.put.Goals as goal

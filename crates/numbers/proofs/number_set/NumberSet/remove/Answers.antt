@@ -1,4 +1,4 @@
-use Rattle.std.proofs.Common.{◌≤◌, arith}
+use Rattle.std.proofs.Common.{arith}
 use Rattle.numbers.proofs.Sets.{has_apart}
 use Rattle.numbers.proofs.number_set.NumberSet.remove.Goals as goal
 

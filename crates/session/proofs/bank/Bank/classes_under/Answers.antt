@@ -1,5 +1,4 @@
-use Rattle.std.proofs.Common.{◌≡◌, ℕ, ◌<◌, ◌≤◌, length, get_or, None, Option, sym, refl, ap, ◌∙◌, arith}
-use Rattle.std.proofs.lemmas.List.{get_or_past, get_or_default}
+use Rattle.std.proofs.Common.{◌≡◌, length, None, Option, refl, ap, ◌∙◌, arith}
 use Rattle.graph.specs.declared.class.Class.{Class}
 use Rattle.session_laws.specs.Bank.{classes_under}
 use Rattle.views.specs.Tables.{class_at}

@@ -1,4 +1,4 @@
-use Rattle.std.proofs.Common.{◌≡◌, ◌<◌, ◌≤◌, Bool, false, length, replicate, refl, inl, inr, arith}
+use Rattle.std.proofs.Common.{◌≤◌, Bool, false, length, replicate, refl, inl, inr, arith}
 use Rattle.std.proofs.lemmas.Bool.{cases_lt}
 use Rattle.std.proofs.lemmas.List.{get_or-replicate, get_or_past, length-replicate}
 use Rattle.session_laws.specs.Bank.{is_register}

@@ -1,5 +1,5 @@
-use Rattle.std.proofs.Common.{◌≡◌, sym, refl, ap, ◌∙◌, subst}
-use Rattle.session_laws.specs.Base.{Base, SoundBase}
+use Rattle.std.proofs.Common.{sym, ap, ◌∙◌, subst}
+use Rattle.session_laws.specs.Base.{SoundBase}
 use Rattle.views.specs.declared.class.ClassView.{ClassView}
 use Rattle.session.proofs.Tables.{view_shape, opened_base, opened_sound}
 use Rattle.session.proofs.session.Session.open.Goals as goal

@@ -1,4 +1,4 @@
-use Rattle.std.proofs.Common.{length, refl}
+use Rattle.std.proofs.Common.{refl}
 use Rattle.session_laws.specs.Calls.{simplify}
 use Rattle.session.proofs.Keeping.{law_of}
 use Rattle.session.proofs.session.Session.simplify.Goals as goal

@@ -1,4 +1,4 @@
-use Rattle.std.proofs.Common.{◌≡◌, ℕ, ◌<◌, ◌≤◌, true, false, ◌&&◌, sym, ap, ◌∙◌, ap₂, arith}
+use Rattle.std.proofs.Common.{◌≡◌, ◌<◌, ◌&&◌, sym, ap, ◌∙◌, ap₂, arith}
 use Rattle.graph.specs.Counting.{any}
 use Rattle.graph.proofs.Counting.{any_from, any_more}
 use Rattle.standing.specs.Standing.{graph_of, light_loose}

@@ -1,5 +1,4 @@
-use Rattle.std.proofs.Common.{◌≡◌, ℕ, ◌+◌, ◌≤◌, Bool, true, false, not, ◌&&◌, ◌||◌, ltb, List, length, sym, refl, ap, ◌∙◌, subst, ap₂, arith}
-use mathlib.Core.Path.{fun_ext}
+use Rattle.std.proofs.Common.{◌≡◌, ℕ, ◌+◌, false, not, ◌&&◌, ◌||◌, ltb, List, length, ap, ◌∙◌, ap₂}
 use Rattle.graph.specs.Counting.{count}
 use Rattle.board.proofs.Bridging.{count_same}
 use Rattle.session_laws.specs.Tests.{briggs, significant}

@@ -1,11 +1,11 @@
-use Rattle.std.proofs.Common.{◌≡◌, ℕ, ◌-◌, ◌<◌, ◌≤◌, Bool, true, false, not, ◌&&◌, sym, refl, ap, ◌∙◌, subst, ap₂, arith}
+use Rattle.std.proofs.Common.{◌≡◌, ℕ, ◌-◌, Bool, not, ◌&&◌, sym, ap, ◌∙◌, subst, ap₂, arith}
 use mathlib.Core.Path.{fun_ext}
 use Rattle.std.proofs.lemmas.Bool.{and_parts}
 use Rattle.graph.specs.Counting.{any}
 use Rattle.numbers.specs.Sets.{has}
 use Rattle.session_laws.specs.Peeling.{left_of, empties}
 use Rattle.session_laws.proofs.Peeling.{empties_decides}
-use Rattle.standing.specs.Standing.{graph_of, base_of, fixed_in, registers_of, loose_in, is_left}
+use Rattle.standing.specs.Standing.{graph_of, fixed_in, registers_of, loose_in, is_left}
 use Rattle.standing.proofs.Emptying.{one_less, left_in, none_there}
 use Rattle.standing.proofs.Shapes.{graph_lawful, graph_stands}
 use Rattle.standing.proofs.standing.Standing.can_be_emptied.Goals as goal

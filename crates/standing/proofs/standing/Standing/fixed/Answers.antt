@@ -1,4 +1,4 @@
-use Rattle.std.proofs.Common.{◌≡◌, ◌+◌, ◌≤◌, not, ◌&&◌, ap, ◌∙◌, ap₂, arith}
+use Rattle.std.proofs.Common.{◌+◌, ◌≤◌, not, ◌&&◌, ◌∙◌, ap₂, arith}
 use Rattle.standing.specs.Standing.{base_of}
 use Rattle.standing.proofs.Shapes.{bank_small}
 use Rattle.standing.proofs.Tests.{bank_test}

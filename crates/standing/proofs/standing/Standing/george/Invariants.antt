@@ -1,8 +1,6 @@
-use Rattle.std.proofs.Common.{◌≡◌, ℕ, Bool, true, false, not, ◌&&◌, ltb}
+use Rattle.std.proofs.Common.{◌≡◌, false}
 use Rattle.graph.specs.Counting.{any}
-use Rattle.graph.specs.Shape.{degree as degree_of}
-use Rattle.session_laws.specs.Emptying.{loose}
-use Rattle.standing.specs.Standing.{graph_of, fixed_in, registers_of, weighty}
+use Rattle.standing.specs.Standing.{graph_of, weighty}
 use Rattle.numbers.specs.Sets.{has}
 use Rattle.standing.proofs.standing.Standing.george.Given as goal
 

@@ -1,5 +1,4 @@
-use Rattle.std.proofs.Common.{◌≡◌, ℕ, ◌-◌, ◌<◌, ◌≤◌, Bool, true, false, ◌&&◌, ◌||◌, ltb, Some, None, sym, refl, ap, ◌∙◌, ap₂, arith}
-use mathlib.Core.Path.{fun_ext}
+use Rattle.std.proofs.Common.{◌≡◌, ℕ, ◌-◌, true, false, ◌&&◌, ◌||◌, ltb, sym, ap, ◌∙◌, ap₂, arith}
 use Rattle.graph.specs.Counting.{first}
 use Rattle.graph.proofs.Counting.{first_here, first_later, first_none}
 use Rattle.numbers.specs.Sets.{has}

@@ -1,4 +1,4 @@
-use Rattle.std.proofs.Common.{◌≡◌, ◌&&◌, sym, refl, ap, ◌∙◌}
+use Rattle.std.proofs.Common.{◌&&◌, sym, ap, ◌∙◌}
 use Rattle.numbers.specs.Sets.{has}
 use Rattle.standing.specs.Standing.{graph_of}
 use Rattle.standing.proofs.Tests.{row_there, row_none}

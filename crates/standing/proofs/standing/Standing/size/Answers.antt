@@ -1,4 +1,3 @@
-use Rattle.std.proofs.Common.{◌≡◌, sym, refl, ap, ◌∙◌}
 use Rattle.standing.specs.Standing.{graph_of}
 use Rattle.standing.proofs.standing.Standing.size.Goals as goal
 

@@ -1,4 +1,4 @@
-use Rattle.std.proofs.Common.{◌≡◌, sym, refl, ap, ◌∙◌}
+use Rattle.std.proofs.Common.{◌∙◌}
 use Rattle.standing.specs.Standing.{is_left}
 use Rattle.standing.proofs.Shapes.{graph_stands}
 use Rattle.standing.proofs.standing.Standing.stands.Goals as goal

@@ -1,7 +1,6 @@
-use Rattle.std.proofs.Common.{◌≡◌, sym, refl, ap, ◌∙◌}
+use Rattle.std.proofs.Common.{sym, ◌∙◌}
 use Rattle.std.proofs.lemmas.Bool.{and_parts}
 use Rattle.standing.specs.Standing.{base_of, board_of, is_left}
-use Rattle.standing.specs.Sound.{base_over}
 use Rattle.standing.proofs.Told.{told_standing}
 use Rattle.standing.proofs.Uniting.{base_same, base_kept, still_inside}
 use Rattle.standing.proofs.standing.Standing.unite.Goals as goal

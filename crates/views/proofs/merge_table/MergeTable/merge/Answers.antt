@@ -1,4 +1,4 @@
-use Rattle.std.proofs.Common.{◌≡◌, ◌∙◌}
+use Rattle.std.proofs.Common.{◌∙◌}
 use Rattle.views.specs.Groups.{group_at, united}
 use Rattle.views.proofs.Groups.{merge_group, same_settled, united_settled, united_merged}
 use Rattle.views.proofs.merge_table.MergeTable.merge.Goals as goal

@@ -1,4 +1,4 @@
-use Rattle.std.proofs.Common.{◌≡◌, refl, arith}
+use Rattle.std.proofs.Common.{refl, arith}
 use Rattle.views.specs.Groups.{group_at}
 use Rattle.views.proofs.Groups.{settled_from, same_settled}
 use Rattle.views.proofs.Renaming.{filled_more, filled_alone}

@@ -1,9 +1,9 @@
-use Rattle.std.proofs.Common.{◌≡◌, ℕ, Bool, true, false, ◌&&◌, eqb, sym, ap, ◌∙◌, arith}
+use Rattle.std.proofs.Common.{◌≡◌, ℕ, true, false, eqb, sym, ap, ◌∙◌, arith}
 use Rattle.std.proofs.lemmas.Bool.{and_left, and_right, and_parts, ne_eqb, eqb-true}
 use Rattle.graph.specs.Counting.{any}
 use Rattle.graph.specs.Shape.{Shape}
 use Rattle.graph.proofs.Counting.{any_more}
-use Rattle.graph.proofs.Merging.{Linked, groups_from}
+use Rattle.graph.proofs.Merging.{groups_from}
 use Rattle.views.specs.Groups.{group_at}
 use Rattle.views.proofs.Groups.{both_tests}
 use Rattle.views.proofs.merged.MergedView.groups_joined.Invariants.{meets, reaches}

@@ -1,4 +1,4 @@
-use Rattle.std.proofs.Common.{◌≡◌, ℕ, Bool, true, false, ◌&&◌, eqb}
+use Rattle.std.proofs.Common.{◌≡◌, ℕ, Bool, false, ◌&&◌, eqb}
 use Rattle.graph.specs.Counting.{any}
 use Rattle.graph.specs.Shape.{Shape}
 use Rattle.views.specs.Groups.{group_at}
