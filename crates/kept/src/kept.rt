@@ -5,7 +5,7 @@ use numbers::NumberSet;
 use standing::Standing;
 
 mod asking;
-mod colouring;
+mod filling;
 mod marking;
 mod merging;
 mod opening;
