@@ -37,8 +37,10 @@ def uncommented(line, mark):
 
 
 def own_names(root):
-    """Names that stand at the head of a signature and are no goal of the check's."""
+    """Names that stand at the head of a signature and are no goal of the check's, and those that an import gives."""
     own, made = set(), set()
+    for path in list(files(root, ".antt")) + list(files(root, ".rt")):
+        own.update(re.findall(r" as ([a-zA-Z]+(?:-[a-zA-Z]+)+)", read(path)))
     for path in files(root, ".antt"):
         for line in read(path).split("\n"):
             code = uncommented(line, "--")[0]
