@@ -14,8 +14,8 @@ import sys
 
 TOKEN = re.compile(r"[^\s(){}\[\],;.:λ«»\"]+")
 HEAD = re.compile(r"^\s*((?:(?:abbrev|unfoldable|pub|data|record|ruleset)\s+)*)([^\s:(){}\[\]|,;.\"]+)\s*(?::\s+(.*)|[({].*|=\s.*)$")
-# a fact that began with a small letter, and two laws whose short names are the library's words
-SPECIAL = {"handed-down": "HandedDown", "bit-and": "bit-bit_and", "bit-or": "bit-bit_or"}
+# a fact that began with a small letter, two laws whose short names are the library's words, and a relation that a record takes
+SPECIAL = {"handed-down": "HandedDown", "bit-and": "bit-bit_and", "bit-or": "bit-bit_or", "One-group": "OneGroup"}
 
 
 def files(root, ending):
@@ -38,7 +38,7 @@ def uncommented(line, mark):
 
 def own_names(root):
     """Names that stand at the head of a signature and are no goal of the check's, and those that an import gives."""
-    own, made = set(), set()
+    own, made = set(SPECIAL), set()
     for path in list(files(root, ".antt")) + list(files(root, ".rt")):
         own.update(re.findall(r" as ([a-zA-Z]+(?:-[a-zA-Z]+)+)", read(path)))
     for path in files(root, ".antt"):

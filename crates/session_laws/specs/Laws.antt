@@ -27,10 +27,10 @@ pub record Proper (o : Opening) : Type 0 where
   pub usable : Usable o.bank
 
 -- What a colouring keeps of the graph that was given. Which vertices are one group is told by a relation.
-pub record SoundColouring (o : Opening) (One-group : ℕ → ℕ → Type 0) (register : ℕ → ℕ) : Type 0 where
+pub record SoundColouring (o : Opening) (OneGroup : ℕ → ℕ → Type 0) (register : ℕ → ℕ) : Type 0 where
   -- vertices joined in the given graph have different registers, where both have one
   pub differ : (u v : ℕ) → o.given.joined u v ≡ true → (register u ≢ none) → (register v ≢ none) → register u ≢ register v
-  pub alike : (u v : ℕ) → One-group u v → register u ≡ register v
+  pub alike : (u v : ℕ) → OneGroup u v → register u ≡ register v
   pub own : (v : ℕ) → fixed (base_of o) v ≡ true → register v ≡ v
   pub in_bank : (v : ℕ) → (register v ≡ none) ⊎ (is_register o.bank (register v) ≡ true)
   pub outside : (v : ℕ) → (own_class o).stands v ≡ false → register v ≡ none
