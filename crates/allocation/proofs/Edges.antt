@@ -1,5 +1,5 @@
 -- A graph in which a list of pairs was joined joins these pairs and those that it joined before. Assumes nothing.
-use Rattle.std.proofs.Common.{◌≡◌, ℕ, ◌+◌, ◌-◌, ◌<◌, Bool, true, false, ◌&&◌, ◌||◌, eqb, ◌⊎◌, List, [], ◌∷◌, Ok, Err, Result, sym, refl, ap, ◌∙◌, subst, inl, inr, arith}
+use Rattle.std.proofs.Common.{◌≡◌, ℕ, ◌+◌, ◌-◌, ◌<◌, Bool, true, false, ◌&&◌, eqb, ◌⊎◌, List, [], ◌∷◌, Ok, Err, Result, sym, refl, ap, ◌∙◌, subst, inl, inr, arith}
 use Rattle.std.proofs.lemmas.Bool.{cases_Bool, and_parts, and_from, or_cases, or_left, or_right, eqb-true, ne_eqb}
 use Rattle.std.proofs.lemmas.Bool.Decides.{nat_tests}
 use Rattle.graph.specs.Shape.{Shape, Meaning, Lawful}
@@ -7,15 +7,19 @@ use Rattle.graph.specs.Judging.{judged}
 use Rattle.graph.specs.Joining.{judge_of, join_answer, join_meaning, with_pair, same_pair}
 use Rattle.graph.specs.Stores.{open_pairs}
 use Rattle.graph.specs.declared.pair.Pair.{Pair}
-use Rattle.graph.specs.declared.pair.Pair.TheVariants.{Refused, Present, Fresh}
+use Rattle.graph.specs.declared.pair.Pair.TheVariants.{Present, Fresh}
 use Rattle.graph.specs.declared.refusal.Refusal.{Refusal}
-use Rattle.graph.proofs.Joining.{refused_answer, refused_meaning, present_answer, present_meaning, Unjoined, fresh_pair, full_answer, full_meaning, added_answer, added_meaning}
+use Rattle.graph.proofs.Joining.{refused_answer, refused_meaning, present_answer, present_meaning, Unjoined, fresh_pair, pair_fresh, full_answer, full_meaning, added_answer, added_meaning}
+use Rattle.graph.proofs.Pairs.{with_pair_lawful}
 use Rattle.graph.proofs.Stores.{open_with_pair}
 use Rattle.allocation.specs.Interference.{Edge, Filled, filled, then_filled}
 use Rattle.allocation.specs.Edges.{Listed, AllStanding}
 
 abbrev added_to : Meaning → ℕ → ℕ → Meaning
 added_to m u v = record { shape = with_pair m.shape u v; free = m.free - 1 }
+
+pair_itself : (u v : ℕ) → same_pair u v u v ≡ true
+pair_itself u v = grind (arith, nat_tests)
 
 -- The three ways of a join: refused, joined before, added.
 abbrev Ways : Meaning → ℕ → ℕ → Type 0
@@ -24,83 +28,42 @@ Ways m u v =
     (((m.shape.joined u v ≡ true) × (join_meaning m u v ≡ m)) ⊎
     ((eqb m.free 0 ≡ false) × (Unjoined m.shape u v × (join_meaning m u v ≡ added_to m u v))))
 
-judged_present : (n u v : ℕ) (t j : Bool) → judged n u v t j ≡ Present → j ≡ true
+judged_present : (n u v : ℕ) (t j : Bool) → judged n u v t j ≡ Ok Present → j ≡ true
 judged_present n u v t j e = grind (arith, nat_tests)
 
 ways : (m : Meaning) (u v : ℕ) → Ways m u v
 ways m u v = by_pair (judge_of m.shape u v) refl
   where
-    by_pair : (p : Pair) → judge_of m.shape u v ≡ p → Ways m u v
-    by_pair (Refused r) e = inl (r, (refused_answer m u v r e, refused_meaning m u v r e))
-    by_pair Present e = inr (inl (judged_present m.shape.size u v (m.shape.stands u && m.shape.stands v) (m.shape.joined u v) e, present_meaning m u v e))
-    by_pair Fresh e = elim (cases_Bool (eqb m.free 0)) [
+    by_pair : (p : Result Pair Refusal) → judge_of m.shape u v ≡ p → Ways m u v
+    by_pair (Err r) e = inl (r, (refused_answer m u v r e, refused_meaning m u v r e))
+    by_pair (Ok Present) e = inr (inl (judged_present m.shape.size u v (m.shape.stands u && m.shape.stands v) (m.shape.joined u v) e, present_meaning m u v e))
+    by_pair (Ok Fresh) e = elim (cases_Bool (eqb m.free 0)) [
       | inl none ↦ let h = eqb-true m.free 0 none in inl (_, (full_answer m u v e h, full_meaning m u v e h))
       | inr some ↦ inr (inr (some, (fresh_pair m.shape u v e, added_meaning m u v e some)))
     ]
 
-pair_itself : (u v : ℕ) → same_pair u v u v ≡ true
-pair_itself u v = grind (arith, nat_tests)
-
-pair_turned : (u v a b : ℕ) → same_pair u v a b ≡ same_pair u v b a
-pair_turned u v a b = grind (arith, nat_tests)
-
-pair_apart : (u v a : ℕ) → eqb u v ≡ false → same_pair u v a a ≡ false
-pair_apart u v a h = grind (arith, nat_tests)
-
-pair_one : (u v a b : ℕ) → same_pair u v a b ≡ true → (a ≡ u) ⊎ (a ≡ v)
-pair_one u v a b h = elim (or_cases (eqb a u && eqb b v) (eqb a v && eqb b u) h) [
-  | inl e ↦ inl (eqb-true a u (and_parts (eqb a u) (eqb b v) e).0)
-  | inr e ↦ inr (eqb-true a v (and_parts (eqb a v) (eqb b u) e).0)
+-- what one pair more keeps, a join keeps
+join_left : (P : Shape → Type 0) (m : Meaning) (u v : ℕ) → P m.shape → (Unjoined m.shape u v → P (with_pair m.shape u v)) →
+    P (join_meaning m u v).shape
+join_left P m u v h added = elim (ways m u v) [
+  | inl refused ↦ subst (λ (n : Meaning). P n.shape) (sym refused.1.1) h
+  | inr (inl before) ↦ subst (λ (n : Meaning). P n.shape) (sym before.1) h
+  | inr (inr new) ↦ subst (λ (n : Meaning). P n.shape) (sym new.1.1) (added new.1.0)
 ]
-
--- one pair more keeps the laws of a graph
-pub with_lawful : (s : Shape) (u v : ℕ) → Unjoined s u v → Lawful s → Lawful (with_pair s u v)
-with_lawful s u v k l = record {
-  least = l.least;
-  most = l.most;
-  inside = l.inside;
-  symmetric = λ a b. let e = l.symmetric a b in let f = pair_turned u v a b in cc;
-  apart = λ a. let e = l.apart a in let f = pair_apart u v a k.differ in neither (s.joined a a) (same_pair u v a a) e f;
-  standing = λ a b h. elim (or_cases (s.joined a b) (same_pair u v a b) h) [
-    | inl e ↦ l.standing a b e
-    | inr e ↦ elim (pair_one u v a b e) [
-      | inl is ↦ rw is k.u_stands
-      | inr is ↦ rw is k.v_stands
-    ]
-  ];
-}
-  where
-    neither : (x y : Bool) → x ≡ false → y ≡ false → (x || y) ≡ false
-    neither x y e f = grind (arith, nat_tests)
 
 pub join_lawful : (m : Meaning) (u v : ℕ) → Lawful m.shape → Lawful (join_meaning m u v).shape
-join_lawful m u v l = elim (ways m u v) [
-  | inl refused ↦ subst (λ (n : Meaning). Lawful n.shape) (sym refused.1.1) l
-  | inr (inl before) ↦ subst (λ (n : Meaning). Lawful n.shape) (sym before.1) l
-  | inr (inr new) ↦ subst (λ (n : Meaning). Lawful n.shape) (sym new.1.1) (with_lawful m.shape u v new.1.0 l)
-]
+join_lawful m u v l = join_left Lawful m u v l (λ k. with_pair_lawful m.shape u v k.u_stands k.v_stands k.differ l)
 
 -- what was joined stays so, and the size and what stands stay
 pub join_keeps : (m : Meaning) (u v a b : ℕ) → m.shape.joined a b ≡ true → (join_meaning m u v).shape.joined a b ≡ true
-join_keeps m u v a b h = elim (ways m u v) [
-  | inl refused ↦ ap (λ (n : Meaning). n.shape.joined a b) refused.1.1 ∙ h
-  | inr (inl before) ↦ ap (λ (n : Meaning). n.shape.joined a b) before.1 ∙ h
-  | inr (inr new) ↦ ap (λ (n : Meaning). n.shape.joined a b) new.1.1 ∙ or_left (m.shape.joined a b) (same_pair u v a b) h
-]
+join_keeps m u v a b h =
+    join_left (λ (s : Shape). s.joined a b ≡ true) m u v h (λ _. or_left (m.shape.joined a b) (same_pair u v a b) h)
 
 pub join_size : (m : Meaning) (u v : ℕ) → (join_meaning m u v).shape.size ≡ m.shape.size
-join_size m u v = elim (ways m u v) [
-  | inl refused ↦ ap (λ (n : Meaning). n.shape.size) refused.1.1
-  | inr (inl before) ↦ ap (λ (n : Meaning). n.shape.size) before.1
-  | inr (inr new) ↦ ap (λ (n : Meaning). n.shape.size) new.1.1
-]
+join_size m u v = join_left (λ (s : Shape). s.size ≡ m.shape.size) m u v refl (λ _. refl)
 
 pub join_stands : (m : Meaning) (u v : ℕ) → (join_meaning m u v).shape.stands ≡ m.shape.stands
-join_stands m u v = elim (ways m u v) [
-  | inl refused ↦ ap (λ (n : Meaning). n.shape.stands) refused.1.1
-  | inr (inl before) ↦ ap (λ (n : Meaning). n.shape.stands) before.1
-  | inr (inr new) ↦ ap (λ (n : Meaning). n.shape.stands) new.1.1
-]
+join_stands m u v = join_left (λ (s : Shape). s.stands ≡ m.shape.stands) m u v refl (λ _. refl)
 
 -- a pair that is granted is joined
 join_done : (m : Meaning) (u v : ℕ) → join_answer m u v ≡ Ok tt → (join_meaning m u v).shape.joined u v ≡ true
@@ -172,45 +135,44 @@ filled_only (e ∷ es) m ok u v h =
       | inr (inr later) ↦ inr (inr (inr later))
     ]
 
-pub filled_lawful : (es : List Edge) (m : Meaning) → Lawful m.shape → Lawful (filled m es).left.shape
-filled_lawful [] m l = l
-filled_lawful (e ∷ es) m l =
+-- what every join keeps, a list of them keeps
+filled_left : (P : Shape → Type 0) → ((m : Meaning) (u v : ℕ) → P m.shape → P (join_meaning m u v).shape) → (es : List Edge) (m : Meaning) →
+    P m.shape → P (filled m es).left.shape
+filled_left P kept [] m h = h
+filled_left P kept (e ∷ es) m h =
     let next = join_meaning m e.one e.other in
-    by_answer (join_answer m e.one e.other) next (filled next es) (join_lawful m e.one e.other l) (filled_lawful es next (join_lawful m e.one e.other l))
+    let here : P next.shape = kept m e.one e.other h in
+    by_answer (join_answer m e.one e.other) next (filled next es) here (filled_left P kept es next here)
   where
-    by_answer : (a : Result (Unit {0}) Refusal) (next : Meaning) (rest : Filled) → Lawful next.shape → Lawful rest.left.shape → Lawful (then_filled a next rest).left.shape
+    by_answer : (a : Result (Unit {0}) Refusal) (next : Meaning) (rest : Filled) → P next.shape → P rest.left.shape → P (then_filled a next rest).left.shape
     by_answer (Ok x) next rest here later = later
     by_answer (Err r) next rest here later = here
 
+pub filled_lawful : (es : List Edge) (m : Meaning) → Lawful m.shape → Lawful (filled m es).left.shape
+filled_lawful es m l = filled_left Lawful join_lawful es m l
+
 pub filled_size : (es : List Edge) (m : Meaning) → (filled m es).left.shape.size ≡ m.shape.size
-filled_size [] m = refl
-filled_size (e ∷ es) m =
-    let next = join_meaning m e.one e.other in
-    by_answer (join_answer m e.one e.other) next (filled next es) (filled_size es next) ∙ join_size m e.one e.other
-  where
-    by_answer : (a : Result (Unit {0}) Refusal) (next : Meaning) (rest : Filled) → rest.left.shape.size ≡ next.shape.size → (then_filled a next rest).left.shape.size ≡ next.shape.size
-    by_answer (Ok x) next rest e = e
-    by_answer (Err r) next rest e = refl
+filled_size es m = filled_left (λ (s : Shape). s.size ≡ m.shape.size) (λ n u v h. join_size n u v ∙ h) es m refl
 
 pub filled_stands : (es : List Edge) (m : Meaning) → (filled m es).left.shape.stands ≡ m.shape.stands
-filled_stands [] m = refl
-filled_stands (e ∷ es) m =
-    let next = join_meaning m e.one e.other in
-    by_answer (join_answer m e.one e.other) next (filled next es) (filled_stands es next) ∙ join_stands m e.one e.other
-  where
-    by_answer : (a : Result (Unit {0}) Refusal) (next : Meaning) (rest : Filled) → rest.left.shape.stands ≡ next.shape.stands → (then_filled a next rest).left.shape.stands ≡ next.shape.stands
-    by_answer (Ok x) next rest e = e
-    by_answer (Err r) next rest e = refl
+filled_stands es m = filled_left (λ (s : Shape). s.stands ≡ m.shape.stands) (λ n u v h. join_stands n u v ∙ h) es m refl
 
 -- a store with room for every pair that is not joined is never full
 roomy_on : (m : Meaning) (u v : ℕ) → Lawful m.shape → m.free ≡ open_pairs m.shape → m.shape.stands u ≡ true → m.shape.stands v ≡ true → eqb u v ≡ false →
     (join_answer m u v ≡ Ok tt) × ((join_meaning m u v).free ≡ open_pairs (join_meaning m u v).shape)
 roomy_on m u v l room su sv ne = elim (cases_Bool (m.shape.joined u v)) [
   | inl j ↦
-      let p : judge_of m.shape u v ≡ Present = judged_joined m.shape.size u v _ _ (l.inside u su) (l.inside v sv) (and_from _ _ su sv) ne j in
+      let p : judge_of m.shape u v ≡ Ok Present = judged_joined m.shape.size u v _ _ (l.inside u su) (l.inside v sv) (and_from _ _ su sv) ne j in
       (present_answer m u v p, ap (λ (n : Meaning). n.free) (present_meaning m u v p) ∙ (room ∙ sym (ap (λ (n : Meaning). open_pairs n.shape) (present_meaning m u v p))))
   | inr j ↦
-      let p : judge_of m.shape u v ≡ Fresh = judged_new m.shape.size u v _ _ (l.inside u su) (l.inside v sv) (and_from _ _ su sv) ne j in
+      let p : judge_of m.shape u v ≡ Ok Fresh = pair_fresh m.shape u v (record {
+        u_inside = l.inside u su;
+        v_inside = l.inside v sv;
+        u_stands = su;
+        v_stands = sv;
+        differ = ne;
+        unjoined = j;
+      }) in
       let less : open_pairs m.shape ≡ open_pairs (with_pair m.shape u v) + 1 = open_with_pair m.shape u v (l.inside u su) (l.inside v sv) ne l j in
       let some : eqb m.free 0 ≡ false = ne_eqb m.free 0 (λ e. omega arith) in
       let after = added_meaning m u v p some in
@@ -218,11 +180,8 @@ roomy_on m u v l room su sv ne = elim (cases_Bool (m.shape.joined u v)) [
       (added_answer m u v p some, ap (λ (n : Meaning). n.free) after ∙ (left ∙ sym (ap (λ (n : Meaning). open_pairs n.shape) after)))
 ]
   where
-    judged_joined : (n u v : ℕ) (t j : Bool) → u < n → v < n → t ≡ true → eqb u v ≡ false → j ≡ true → judged n u v t j ≡ Present
+    judged_joined : (n u v : ℕ) (t j : Bool) → u < n → v < n → t ≡ true → eqb u v ≡ false → j ≡ true → judged n u v t j ≡ Ok Present
     judged_joined n u v t j hu hv ht ne hj = grind (arith, nat_tests)
-
-    judged_new : (n u v : ℕ) (t j : Bool) → u < n → v < n → t ≡ true → eqb u v ≡ false → j ≡ false → judged n u v t j ≡ Fresh
-    judged_new n u v t j hu hv ht ne hj = grind (arith, nat_tests)
 
 pub filled_fine : (es : List Edge) (m : Meaning) → Lawful m.shape → m.free ≡ open_pairs m.shape → AllStanding m.shape es → (filled m es).answer ≡ Ok tt
 filled_fine [] m l room all = refl

@@ -2,8 +2,7 @@
 -- Assumes nothing.
 use Rattle.std.proofs.Common.{◌≡◌, ℕ, zero, suc, ◌+◌, ◌<◌, ◌≤◌, true, false, eqb, ltb, leb, List, [], ◌∷◌, ◌++◌, length, Some, None, Option, sym, refl, ap, ◌∙◌, inl, inr, arith}
 use Rattle.std.proofs.lemmas.Bool.{cases_Bool, false≢true, and_parts, and_left, and_right, ne_eqb, ltb-true}
-use Rattle.graph.specs.Counting.{any}
-use Rattle.graph.proofs.Counting.{first_missed, count_none, any_witness}
+use Rattle.graph.proofs.Counting.{first_missed, count_none}
 use Rattle.session_laws.specs.Bank.{among}
 use Rattle.session_laws.specs.Base.{Opening, Base, SoundBase, base_of}
 use Rattle.session_laws.specs.State.{State, opened, standing_graph, is_loose, has_pending, Emptiable}
@@ -15,7 +14,7 @@ use Rattle.session_laws.specs.Laws.{Proper}
 use Rattle.session_laws.specs.Outcomes.{least_bytes}
 use Rattle.session_laws.specs.Runs.{after}
 use Rattle.session_laws.proofs.Colours.{colour_complete}
-use Rattle.session_laws.proofs.Exactness.{grants}
+use Rattle.session_laws.proofs.Exactness.{grants, none_passes}
 use Rattle.session_laws.proofs.Laws.{runs_keep}
 use Rattle.session_laws.proofs.Runs.{opens_well, sound_run, emptied_run, light_run, after_more}
 use Rattle.session_laws.proofs.Standing.{standing_lawful, loose_inside}
@@ -118,13 +117,7 @@ emptied_placed o p cs e none =
       | inr h ↦ and_left (b.graph.stands v) (eqb (register_of b s v) 255) h
     ] in
     record {
-      done = none_loose b s loose;
+      done = none_passes (is_loose b s) b.graph.size loose;
       all = out;
       nothing = count_none (group_left_out b s) b.graph.size (λ v _. and_left (left_out b s v) (eqb (s.table v) v) (out v));
     }
-  where
-    none_loose : (b : Base) (s : State) → ((v : ℕ) → is_loose b s v ≡ true → ⊥) → any (is_loose b s) b.graph.size ≡ false
-    none_loose b s loose = elim (cases_Bool (any (is_loose b s) b.graph.size)) [
-      | inl h ↦ let found = any_witness (is_loose b s) b.graph.size h in absurd (loose found.0 found.1.1)
-      | inr h ↦ h
-    ]

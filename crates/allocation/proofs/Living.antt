@@ -1,7 +1,7 @@
 -- Paths of at most so many rows find all that is live. Assumes nothing.
-use Rattle.std.proofs.Common.{◌≡◌, ℕ, zero, suc, ◌<◌, Bool, true, false, not, ◌&&◌, ◌⊎◌, List, length, Decides, sym, refl, ◌∙◌, inl, inr, arith}
+use Rattle.std.proofs.Common.{◌≡◌, ℕ, zero, suc, ◌<◌, Bool, true, false, not, ◌&&◌, ◌⊎◌, List, length, Decides, sym, ◌∙◌, inl, inr, arith}
 use Rattle.std.proofs.lemmas.Option.{slice_get_past}
-use Rattle.std.proofs.lemmas.Bool.{cases_lt, cases_Bool, false≢true, not-true, not_from_false, and_parts, and_from, or_cases, or_left, or_right}
+use Rattle.std.proofs.lemmas.Bool.{cases_lt, cases_Bool, false≢true, not-true, not_from_false, and_parts, and_from, or_cases, or_left, or_right, true_from_ne_false}
 use Rattle.code.specs.Rows.{Fields}
 use Rattle.numbers.specs.Counting.{count, any}
 use Rattle.numbers.proofs.Counting.{count_le, count_grows, any_found, any_false}
@@ -77,10 +77,8 @@ module _ (rows : List Fields) (v : ℕ) where
   new k i = on (suc k) i && not (on k i)
 
   settled_when : (k : ℕ) → any (new k) (length rows) ≡ false → Settled k
-  settled_when k none i e = elim (cases_Bool (on k i)) [
-    | inl there ↦ there
-    | inr gone ↦ absurd (false≢true (sym (any_false (new k) (length rows) i none (inside k i e)) ∙ and_from (on (suc k) i) (not (on k i)) e (not_from_false (on k i) gone)))
-  ]
+  settled_when k none i e = true_from_ne_false (on k i) (λ gone.
+      false≢true (sym (any_false (new k) (length rows) i none (inside k i e)) ∙ and_from (on (suc k) i) (not (on k i)) e (not_from_false (on k i) gone)))
 
   -- a row more finds nothing new, or more rows
   more : (k : ℕ) → Settled k ⊎ (count (on k) (length rows) < count (on (suc k)) (length rows))
@@ -135,10 +133,3 @@ after_decides rows i v = (
   λ e. let found = ahead_found rows i (λ j. live_before rows j v) e in (found.0, found.1, (before_decides rows found.0 v).0 found.2),
   λ l. ahead_from rows i (λ j. live_before rows j v) l.0 l.1 ((before_decides rows l.0 v).1 l.2),
 )
-
--- two tests that decide one thing are the same
-pub same_test : {P : Type 0} (a b : Bool) → Decides a P → Decides b P → a ≡ b
-same_test true true p q = refl
-same_test true false p q = sym (q.1 (p.0 refl))
-same_test false true p q = p.1 (q.0 refl)
-same_test false false p q = refl

@@ -5,8 +5,8 @@ use Rattle.code.specs.Rows.{Fields}
 use Rattle.formula.specs.Formulas.{Formula}
 use Rattle.graph.specs.Refusals.{number_of}
 use Rattle.graph.specs.Shape.{Shape, Meaning}
-use Rattle.graph.specs.declared.class.Class.{Class}
-use Rattle.graph.specs.declared.class.Class.TheVariants.{Zero, One}
+use Rattle.classes.specs.declared.class.Class.{Class}
+use Rattle.classes.specs.declared.class.Class.TheVariants.{Zero, One}
 use Rattle.graph.specs.declared.refusal.Refusal.{Refusal}
 use Rattle.session_laws.specs.Bank.{Bank}
 use Rattle.session_laws.specs.Base.{Base, base_of}

@@ -5,8 +5,8 @@ use Rattle.code.specs.Rows.{Fields}
 use Rattle.graph.specs.Counting.{count, any}
 use Rattle.graph.specs.Shape.{Shape}
 use Rattle.graph.specs.Views.{is_chosen}
-use Rattle.graph.specs.declared.class.Class.{Class}
-use Rattle.graph.specs.declared.class.Class.TheVariants.{Zero, One}
+use Rattle.classes.specs.declared.class.Class.{Class}
+use Rattle.classes.specs.declared.class.Class.TheVariants.{Zero, One}
 use Rattle.session_laws.specs.Bank.{Bank}
 use Rattle.session_laws.specs.Base.{Opening, Base, base_of}
 use Rattle.session_laws.specs.State.{State, opened, is_loose}

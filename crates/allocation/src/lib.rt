@@ -4,8 +4,6 @@
 ghost use Rattle.allocation.specs.Worked.{Worked as WorkedFormulas};
 
 // What becomes of two formulas, worked through.
-pub fn worked() -> u8
+pub fn worked()
     ensures { WorkedFormulas }
-{
-    0
-}
+{}

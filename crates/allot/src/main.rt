@@ -27,43 +27,34 @@ fn check(rt: &HostRuntime, bytes: &[u8]) -> anyhow::Result<ExitCode> {
     }
 }
 
-// What cannot be read is told by its name and the reason.
-fn unread(rt: &HostRuntime, name: &str, error: io::Error) -> anyhow::Result<ExitCode> {
-    eprint!(rt; "allot: {name} cannot be read: {error}\n")?;
-    Ok(ExitCode::FAILURE)
-}
-
-fn from_stdin(rt: &HostRuntime) -> anyhow::Result<ExitCode> {
-    let mut buffer = [0u8; input::MOST];
-    match input::from_stdin(rt, &mut buffer) {
-        Ok(len) => check(rt, &buffer[0..len]),
-        Err(error) => unread(rt, "standard input", error),
-    }
-}
-
-fn from_file(rt: &HostRuntime, path: &str) -> anyhow::Result<ExitCode> {
-    let mut buffer = [0u8; input::MOST];
-    match input::from_file(rt, path, &mut buffer) {
-        Ok(len) => check(rt, &buffer[0..len]),
-        Err(error) => unread(rt, path, error),
+// Checks what was read, or tells by its name and the reason what cannot be read.
+fn check_read(rt: &HostRuntime, name: &str, read: io::Result<Vec<u8>>) -> anyhow::Result<ExitCode> {
+    match read {
+        Ok(bytes) => check(rt, bytes.as_slice()),
+        Err(error) => {
+            eprint!(rt; "allot: {name} cannot be read: {error}\n")?;
+            Ok(ExitCode::FAILURE)
+        }
     }
 }
 
 fn run(rt: &HostRuntime) -> anyhow::Result<ExitCode> {
     let mut args = env::args(rt)?;
     let _program = args.next();
+    // No `?`: without an argument there is standard input.
     let Some(first) = args.next() else {
-        return from_stdin(rt);
+        return check_read(rt, "standard input", input::from_stdin(rt));
     };
-    if first.as_str() == "--help" {
+    let path = first.as_str();
+    if path == "--help" {
         print!(rt; "{}", help::TEXT)?;
         return Ok(ExitCode::SUCCESS);
     }
-    if args.next().is_some() | first.as_str().starts_with("-") {
+    if args.next().is_some() | path.starts_with("-") {
         eprint!(rt; "allot: one file and no option but --help; allot --help explains\n")?;
         return Ok(ExitCode::FAILURE);
     }
-    from_file(rt, first.as_str())
+    check_read(rt, path, input::from_file(rt, path))
 }
 
 fn main(rt: HostRuntime) -> anyhow::Result<ExitCode> {

@@ -1,6 +1,9 @@
 -- Counting in sets, as numbers does it, and in graphs. Assumes nothing.
-use Rattle.std.proofs.Common.{◌≡◌, ℕ, zero, suc, ◌+◌, ◌-◌, ◌<◌, ◌≤◌, Bool, false, cond, refl, ap, ◌∙◌, arith}
+use Rattle.std.proofs.Common.{◌≡◌, ℕ, zero, suc, ◌+◌, ◌-◌, ◌<◌, ◌≤◌, Bool, false, cond, refl, ap, ◌∙◌, inl, inr, arith}
+use Rattle.std.proofs.lemmas.Bool.{cases_Bool}
 use Rattle.graph.specs.Counting.{count}
+use Rattle.graph.specs.Shape.{Shape, Lawful}
+use Rattle.session_laws.proofs.Cores.{far_inside}
 use Rattle.graph.proofs.Counting.{count_split, count_none}
 use Rattle.numbers.specs.Counting.{count as set_count}
 
@@ -27,3 +30,10 @@ count_more p n m l none =
 -- how many are in a set: as many as pass a test that the set is of
 pub set_size : (p q : ℕ → Bool) (n : ℕ) → n ≤ 512 → ((v : ℕ) → p v ≡ q v) → ((v : ℕ) → n ≤ v → q v ≡ false) → set_count p 512 ≡ count q n
 set_size p q n l same none = counts p 512 ∙ (count_same p q 512 (λ v _. same v) ∙ count_more q n 512 l none)
+
+-- nothing past the end is joined
+pub none_joined : (g : Shape) → Lawful g → (u v : ℕ) → g.size ≤ v → g.joined u v ≡ false
+none_joined g l u v h = elim (cases_Bool (g.joined u v)) [
+  | inl j ↦ absurd (let low : v < g.size = far_inside g l u v j in omega arith)
+  | inr j ↦ j
+]

@@ -1,7 +1,9 @@
+pub mod Making
 pub mod Lookup
 pub mod Untold
 pub mod Merging
 pub mod Bridging
+pub mod Members
 pub mod Boards
 pub mod Spreading
 pub mod Uniting

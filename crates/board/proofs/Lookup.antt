@@ -1,5 +1,7 @@
 -- Reading and writing rows. Assumes nothing.
-use Rattle.std.proofs.Common.{◌≡◌, ℕ, zero, suc, ◌<◌, ◌≤◌, false, List, [], ◌∷◌, length, get_or, set, refl, ap, arith}
+use Rattle.std.proofs.Common.{◌≡◌, ℕ, zero, suc, ◌<◌, ◌≤◌, false, ltb, List, [], ◌∷◌, length, get_or, set, Some, None, Option, Bor, sym, refl, ap, ◌∙◌, arith}
+use Rattle.std.proofs.lemmas.Bool.{ltb-true, ltb-false}
+use Rattle.std.specs.Option.{MatchOption, IfSome, is_some, option_copied}
 use Rattle.numbers.specs.Sets.{has}
 use Rattle.numbers.specs.declared.number_set.NumberSet.{NumberSet}
 use Rattle.board.specs.Rows.{row_has}
@@ -29,3 +31,10 @@ row_set_other (first ∷ rows) zero zero v row ne = absurd (ne refl)
 row_set_other (first ∷ rows) zero (suc u) v row ne = refl
 row_set_other (first ∷ rows) (suc w) zero v row ne = refl
 row_set_other (first ∷ rows) (suc w) (suc u) v row ne = row_set_other rows w u v row (λ e. ne (ap suc e))
+
+-- what is read of the row at u, where there is one, and the empty set past the end
+pub row_read : (rows : List NumberSet) (u v : ℕ) (row : NumberSet) (found : Option (Bor NumberSet)) → is_some found ≡ ltb u (length rows) →
+    IfSome found (λ x. x.now ≡ get_or rows u x.now) → MatchOption (option_copied found) ((k : ℕ) → has row k ≡ false) (λ x. row ≡ x) →
+    has row v ≡ row_has rows u v
+row_read rows u v row None past none read = read v ∙ sym (row_past rows u v (ltb-false _ _ (sym past)))
+row_read rows u v row (Some x) inside here read = ap (λ (s : NumberSet). has s v) (read ∙ here) ∙ sym (row_at rows u v x.now (ltb-true _ _ (sym inside)))

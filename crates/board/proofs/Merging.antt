@@ -1,6 +1,7 @@
 -- Rows after a merge are the rows of the merged graph. Assumes nothing.
 use Rattle.std.proofs.Common.{◌≡◌, ℕ, ◌<◌, Bool, true, false, not, ◌&&◌, ◌||◌, eqb, sym, refl, ◌∙◌, inl, inr, arith}
 use Rattle.std.proofs.lemmas.Bool.{cases_Bool, cases_eq, both_ways, eq-eqb, ne_eqb}
+use Rattle.std.proofs.Math.Bool.{or-false, or-true}
 use Rattle.graph.specs.Shape.{Shape, Lawful}
 use Rattle.graph.specs.Views.{merged_view}
 use Rattle.graph.proofs.Merging.{merged_is_view, same_test}
@@ -8,12 +9,6 @@ use Rattle.session_laws.specs.Runs.{united}
 use Rattle.session_laws.proofs.Rows.{joined_others, joined_x, joined_y}
 use Rattle.session_laws.proofs.Standing.{Name, meet_parts, meet_from}
 use Rattle.board.specs.Rows.{spread_to}
-
-or_true : (a : Bool) → (a || true) ≡ true
-or_true a = elim a as (λ b. (b || true) ≡ true) [ true ↦ refl | false ↦ refl ]
-
-or_false : (a : Bool) → (a || false) ≡ a
-or_false a = elim a as (λ b. (b || false) ≡ b) [ true ↦ refl | false ↦ refl ]
 
 and_out : (a : Bool) → ((a && not true) || false) ≡ false
 and_out a = elim a as (λ b. ((b && not true) || false) ≡ false) [ true ↦ refl | false ↦ refl ]
@@ -79,9 +74,9 @@ module _ (g : Shape) (l : Lawful g) (table : ℕ → ℕ) (x y : ℕ) (nx : Name
       | inl e ↦
           let is : eqb v x ≡ true = eq-eqb v x e in
           let now-joined : new.joined u x ≡ true =
-          new_lawful.symmetric u x ∙ (row_low u ∙ (rw near (or_true (old.joined x u)))) in
+          new_lawful.symmetric u x ∙ (row_low u ∙ (rw near (or-true (old.joined x u)))) in
           let out : new.joined u v ≡ true = rw e now-joined in
-          rw (near, is) (out ∙ sym (or_true _))
+          rw (near, is) (out ∙ sym (or-true _))
       | inr v≠x ↦
           let is-not : eqb v x ≡ false = ne_eqb v x v≠x in
           elim (cases_eq v y) [
@@ -97,7 +92,7 @@ module _ (g : Shape) (l : Lawful g) (table : ℕ → ℕ) (x y : ℕ) (nx : Name
     | inr far ↦ elim (cases_eq v x) [
       | inl e ↦
           let swap : new.joined u x ≡ old.joined u x =
-          new_lawful.symmetric u x ∙ (row_low u ∙ ((rw far (or_false (old.joined x u))) ∙ old_lawful.symmetric x u)) in
+          new_lawful.symmetric u x ∙ (row_low u ∙ ((rw far (or-false (old.joined x u))) ∙ old_lawful.symmetric x u)) in
           rw (far, e) swap
       | inr v≠x ↦ elim (cases_eq v y) [
         | inl e ↦

@@ -1,52 +1,44 @@
 -- A loop that changes one row after the other. Assumes nothing.
-use Rattle.std.proofs.Common.{◌≡◌, ℕ, ◌+◌, ◌<◌, ◌≤◌, Bool, true, false, not, ◌&&◌, ◌||◌, eqb, List, length, set, ap, ◌∙◌, inl, inr, arith, length-set}
-use Rattle.std.proofs.lemmas.Bool.{cases_lt, cases_eq, eq-eqb, ne_eqb}
+use Rattle.std.proofs.Common.{◌≡◌, ℕ, ◌<◌, ◌≤◌, Bool, true, false, not, ◌&&◌, ◌||◌, eqb, List, length, set, sym, refl, ap, ◌∙◌, inl, inr, arith, length-set}
+use Rattle.std.proofs.lemmas.Bool.{cases_eq, eq-eqb, ne_eqb}
+use Rattle.std.proofs.Math.Bool.{or-false}
+use Rattle.std.proofs.lemmas.Bool.Decides.{nat_tests}
+use Rattle.numbers.specs.Iterating.{place, given}
 use Rattle.numbers.specs.Sets.{has}
+use Rattle.numbers.specs.declared.members.Members.{Members}
 use Rattle.numbers.specs.declared.number_set.NumberSet.{NumberSet}
 use Rattle.board.specs.Rows.{row_has, spread_to, rows_merged}
 use Rattle.board.proofs.Lookup.{row_set_same, row_set_other}
 
--- rows below w are changed, the others are as they were
-abbrev pub Spread : (ℕ → Bool) → ℕ → ℕ → (ℕ → ℕ → Bool) → List NumberSet → ℕ → Type 0
-Spread passes low high old rows w =
-    (length rows ≡ 512) ×
-    ((u v : ℕ) → u < w → row_has rows u v ≡ spread_to passes low high old u v) ×
-    ((u v : ℕ) → w ≤ u → row_has rows u v ≡ old u v)
+-- in the rows of those that pass, low has taken the place of high
+abbrev pub Spread : (ℕ → Bool) → ℕ → ℕ → (ℕ → ℕ → Bool) → List NumberSet → Type 0
+Spread passes low high old rows = (u v : ℕ) → row_has rows u v ≡ spread_to passes low high old u v
 
-module _ (passes : ℕ → Bool) (low high : ℕ) (old : ℕ → ℕ → Bool) (rows : List NumberSet) (w : ℕ) where
-  pub spread_skip : passes w ≡ false → Spread passes low high old rows w → Spread passes low high old rows (w + 1)
-  spread_skip no-pass s = (
-    s.0,
-    λ u v l. elim (cases_lt u w) [
-      | inl below ↦ s.1 u v below
-      | inr above ↦ let here : u ≡ w = omega arith in rw here (rw no-pass (s.2 w v (omega arith)))
-    ],
-    λ u v l. s.2 u v (omega arith),
-  )
+pub spread_none : (passes : ℕ → Bool) (low high : ℕ) (rows : List NumberSet) → ((k : ℕ) → passes k ≡ false) → Spread passes low high (row_has rows) rows
+spread_none passes low high rows none u v = rw (none u)
 
-  pub spread_turn : (row : NumberSet) → w < 512 → passes w ≡ true → Spread passes low high old rows w →
-      ((v : ℕ) → has row v ≡ ((row_has rows w v && not (eqb v high)) || eqb v low)) → Spread passes low high old (set rows w row) (w + 1)
-  spread_turn row inside pass s is =
-      let long : length rows ≡ 512 = s.0 in (
-        length-set rows w row ∙ long,
-        λ u v l. elim (cases_lt u w) [
-          | inl below ↦ row_set_other rows w u v row (λ e. omega arith) ∙ s.1 u v below
-          | inr above ↦
-              let here : u ≡ w = omega arith in
-              let now : row_has (set rows w row) w v ≡ has row v = row_set_same rows w v row (omega arith) in
-              let was : row_has rows w v ≡ old w v = s.2 w v (omega arith) in
-              rw here (rw pass (now ∙ (is v ∙ ap (λ x. (x && not (eqb v high)) || eqb v low) was)))
-        ],
-        λ u v l. row_set_other rows w u v row (λ e. omega arith) ∙ s.2 u v (omega arith),
-      )
+pub spread_all : (passes set : ℕ → Bool) (low high : ℕ) (old : ℕ → ℕ → Bool) (rows : List NumberSet) → ((k : ℕ) → passes k ≡ set k) →
+    Spread passes low high old rows → Spread set low high old rows
+spread_all passes set low high old rows same so_far u v = rw (sym (same u)) (so_far u v)
 
--- no row past the end is changed
-pub spread_all : (gone : ℕ → Bool) (low high : ℕ) (before rows : List NumberSet) (u v : ℕ) → length before ≡ 512 →
-    ((k : ℕ) → 512 ≤ k → gone k ≡ false) →
-    Spread gone low high (row_has before) rows 512 → row_has rows u v ≡ spread_to gone low high (row_has before) u v
-spread_all gone low high before rows u v long none s = elim (cases_lt u 512) [
-  | inl l ↦ s.1 u v l
-  | inr h ↦ let out : gone u ≡ false = none u h in rw out (s.2 u v h)
+-- a member that is still to come has not been given
+pub given_later : (m : Members) (k : ℕ) → place m ≤ k → given m k ≡ false
+given_later m k h = grind (arith, nat_tests)
+
+-- one more passes
+pub spread_turn : (passes then_passes : ℕ → Bool) (low high : ℕ) (old : ℕ → ℕ → Bool) (rows : List NumberSet) (w : ℕ) (row : NumberSet) →
+    w < length rows → passes w ≡ false → ((k : ℕ) → then_passes k ≡ (passes k || eqb k w)) → Spread passes low high old rows →
+    ((v : ℕ) → has row v ≡ ((row_has rows w v && not (eqb v high)) || eqb v low)) → Spread then_passes low high old (set rows w row)
+spread_turn passes then_passes low high old rows w row inside fresh more so_far is u v = elim (cases_eq u w) [
+  | inl e ↦
+      let here : eqb w w ≡ true = eq-eqb w w refl in
+      let passed : then_passes w ≡ true = more w ∙ (rw (fresh, here)) in
+      let was : row_has rows w v ≡ old w v = so_far w v ∙ (rw fresh) in
+      rw e (rw passed (row_set_same rows w v row inside ∙ (is v ∙ ap (λ x. (x && not (eqb v high)) || eqb v low) was)))
+  | inr ne ↦
+      let other : eqb u w ≡ false = ne_eqb u w ne in
+      let same : then_passes u ≡ passes u = more u ∙ (rw other (or-false (passes u))) in
+      rw same (row_set_other rows w u v row ne ∙ so_far u v)
 ]
 
 module _ (low high : ℕ) (before spread : List NumberSet) (both empty : NumberSet) (differ : low < high) (inside : high < 512) (long : length spread ≡ 512)

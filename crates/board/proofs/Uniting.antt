@@ -1,5 +1,5 @@
 -- A board after a merge. Assumes nothing.
-use Rattle.std.proofs.Common.{◌≡◌, ℕ, ◌<◌, ◌≤◌, min, max, Bool, true, false, eqb, ltb, List, length, sym, ap, ◌∙◌, inl, inr, arith}
+use Rattle.std.proofs.Common.{◌≡◌, ℕ, ◌<◌, ◌≤◌, min, max, Bool, true, false, eqb, ltb, List, sym, ap, ◌∙◌, inl, inr, arith}
 use mathlib.Core.Path.{fun_ext}
 use Rattle.std.proofs.lemmas.Bool.{cases_eq, eq-eqb, ne_eqb, lt-ltb}
 use Rattle.graph.specs.Views.{merged_view}
@@ -58,16 +58,14 @@ module _ (b : Board) (low high : ℕ) (two : TwoGroups b low high) where
         ]
   ]
 
-  pub united_sound : (rows : List NumberSet) (to : List ℕ) → length rows ≡ 512 →
-      ((u v : ℕ) → row_has rows u v ≡ rows_merged low high (row_has b.rows) u v) → group_at to ≡ united (table_of b) high low →
-      SoundBoard b.size b.vertices b.given rows to
+  pub united_sound : (rows : List NumberSet) (to : List ℕ) →
+      ((u v : ℕ) → row_has rows u v ≡ rows_merged low high (row_has b.rows.sets) u v) → group_at to ≡ united (table_of b) high low →
+      SoundBoard b.size b.vertices b.given.sets rows to
   unfolding opened_graph table_of
-  united_sound rows to long each table = record {
-    whole_given = (told_board _ _ _ _ _ b.sound).whole_given;
-    whole_rows = long;
+  united_sound rows to each table = record {
     lawful = (told_board _ _ _ _ _ b.sound).lawful;
     up_to_date = λ u v.
-        let same : row_has b.rows ≡ (merged_graph b).joined = fun_ext (λ x. fun_ext (λ y. rows_are b x y)) in
+        let same : row_has b.rows.sets ≡ (merged_graph b).joined = fun_ext (λ x. fun_ext (λ y. rows_are b x y)) in
         each u v ∙ (ap (λ (r : ℕ → ℕ → Bool). rows_merged low high r u v) same ∙ (new_rows u v ∙
         sym (ap (λ (t : ℕ → ℕ). (merged_view t (opened_graph b)).joined u v) table)));
   }

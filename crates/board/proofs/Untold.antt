@@ -33,8 +33,6 @@ told_lawful s t f = record {
 pub told_board : (size : ℕ) (vertices : NumberSet) (given rows : List NumberSet) (to : List ℕ) →
     ∥ SoundBoard size vertices given rows to ∥₁ → SoundBoard size vertices given rows to
 told_board size vertices given rows to t = record {
-  whole_given = told_number _ _ t (λ x. x.whole_given);
-  whole_rows = told_number _ _ t (λ x. x.whole_rows);
   lawful = told_lawful _ t (λ x. x.lawful);
   up_to_date = λ u v. told_test _ _ t (λ x. x.up_to_date u v);
 }

@@ -8,7 +8,7 @@ use Rattle.board.specs.declared.board.Board.{Board}
 
 -- the graph that the session was opened over
 unfoldable pub opened_graph : Board → Shape
-opened_graph b = snapshot b.size b.vertices b.given
+opened_graph b = snapshot b.size b.vertices b.given.sets
 
 -- the merge table
 unfoldable pub table_of : Board → ℕ → ℕ

@@ -1,5 +1,5 @@
 -- What the arrays of a board mean, and how they hang together. Assumes nothing.
-use Rattle.std.specs.Prelude.{◌≡◌, ℕ, List, length}
+use Rattle.std.specs.Prelude.{◌≡◌, ℕ, List}
 use Rattle.graph.specs.Shape.{Shape, Lawful}
 use Rattle.graph.specs.Views.{merged_view}
 use Rattle.numbers.specs.Sets.{has}
@@ -12,7 +12,5 @@ abbrev pub snapshot : ℕ → NumberSet → List NumberSet → Shape
 snapshot size vertices given = record { size = size; stands = has vertices; joined = row_has given }
 
 pub record SoundBoard (size : ℕ) (vertices : NumberSet) (given rows : List NumberSet) (to : List ℕ) : Type 0 where
-  pub whole_given : length given ≡ 512
-  pub whole_rows : length rows ≡ 512
   pub lawful : Lawful (snapshot size vertices given)
   pub up_to_date : (u v : ℕ) → row_has rows u v ≡ (merged_view (group_at to) (snapshot size vertices given)).joined u v

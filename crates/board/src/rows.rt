@@ -1,35 +1,53 @@
-// Rows apart from the board that they belong to, so that a loop may change them.
 ghost use Rattle.std.specs.Prelude.{◌≡◌, ℕ, ◌<◌, length};
 ghost use Rattle.board.specs.Rows.{row_has, spread_to, rows_merged};
 ghost use Rattle.numbers.specs.Sets.{has};
 
 use numbers::NumberSet;
 
-// The row of `low` takes in that of `high`, and `low` takes the place of `high` in the others.
-pub(crate) fn merge_rows(rows: &mut [NumberSet; 512], low: usize, high: usize)
-    requires { (low < high) × (high < 512) }
-    ensures whole { length rows.new ≡ 512 }
-    ensures each { (u v : ℕ) → row_has rows.new u v ≡ rows_merged low high (row_has rows.old) u v }
-{
-    let gone = rows[high];
-    let both = rows[low].union(&gone);
-    spread(rows, &gone, low, high);
-    rows[low] = both;
-    rows[high] = NumberSet::new();
+// The neighbours of 512 vertices: a row of numbers for each.
+#[derive(Clone, Copy)]
+pub(crate) struct Rows {
+    // an array, since the library takes no heap
+    sets: [NumberSet; 512],
+    ghost whole: { length sets ≡ 512 },
 }
 
-// In each row of `gone`, `low` takes the place of `high`.
-fn spread(rows: &mut [NumberSet; 512], gone: &NumberSet, low: usize, high: usize)
-    requires { (length rows.old ≡ 512) × (low < 512) }
-    ensures whole { length rows.new ≡ 512 }
-    ensures each { (u v : ℕ) → row_has rows.new u v ≡ spread_to (has gone.now) low high (row_has rows.old) u v }
-{
-    for w in 0..512 {
-        if gone.contains(w) {
-            let mut row = rows[w];
+impl Rows {
+    pub(crate) fn new(sets: [NumberSet; 512]) -> Rows
+        ensures { result.sets ≡ sets }
+    {
+        Rows { sets }
+    }
+
+    // The neighbours of u; there are none past the last row.
+    pub(crate) fn row(&self, u: usize) -> NumberSet
+        ensures { (v : ℕ) → has result v ≡ row_has self.now.sets u v }
+    {
+        self.sets.get(u).copied().unwrap_or_else(NumberSet::new)
+    }
+
+    // The row of `low` takes in that of `high`, and `low` takes the place of `high` in the others.
+    pub(crate) fn merge(&mut self, low: usize, high: usize)
+        requires { (low < high) × (high < 512) }
+        ensures { (u v : ℕ) → row_has self.new.sets u v ≡ rows_merged low high (row_has self.old.sets) u v }
+    {
+        let gone = self.sets[high];
+        let both = self.sets[low].union(&gone);
+        self.spread(&gone, low, high);
+        self.sets[low] = both;
+        self.sets[high] = NumberSet::new();
+    }
+
+    // In each row of `gone`, `low` takes the place of `high`.
+    fn spread(&mut self, gone: &NumberSet, low: usize, high: usize)
+        requires { low < 512 }
+        ensures { (u v : ℕ) → row_has self.new.sets u v ≡ spread_to (has gone.now) low high (row_has self.old.sets) u v }
+    {
+        for w in gone.iter() {
+            let mut row = self.sets[w];
             row.remove(high);
             row.insert(low);
-            rows[w] = row;
+            self.sets[w] = row;
         }
     }
 }

@@ -1,40 +1,36 @@
 -- What is asked of code, from how its rows are kept.
-use Rattle.std.proofs.Common.{◌≡◌, ℕ, ◌+◌, ◌<◌, ◌≤◌, cond, List, [], ◌∷◌, ◌++◌, map, length, get_or, take, Some, None, sym, ap, ◌∙◌, add-zero, add_assoc, zero-add, arith, get_or-take}
+use Rattle.std.proofs.Common.{◌≡◌, ℕ, ◌+◌, ◌<◌, Bool, true, false, cond, List, map, length, get_or, take, Some, None, Option, IfSome, slice_get, sym, refl, ◌∙◌, arith, length-take, get_or-take}
 use lib.ListN.{length-map}
-use Rattle.std.specs.List.{slice_get}
-use Rattle.std.proofs.lemmas.List.{map_more, get_or-map, length-take-le}
-use Rattle.std.proofs.lemmas.Option.{slice_get-get_or, slice_get_past}
+use Rattle.std.specs.List.{count_by}
+use Rattle.std.proofs.lemmas.List.{length-take-le}
+use Rattle.std.proofs.lemmas.Option.{slice_get_within, get_or_from_slice_get}
+use Rattle.std.proofs.lemmas.List.Recursion.{is_count_by}
 use Rattle.code.specs.Codes.{rows_of, moves_in, is_move}
-use Rattle.code.specs.Rows.{Fields, fields}
+use Rattle.code.specs.Fits.{row_fits}
+use Rattle.code.specs.Rows.{fields}
 use Rattle.code.specs.declared.body.Code.{Code}
 use Rattle.code.specs.declared.row.Row.{Row}
+use Rattle.code.specs.declared.row.Row.TheVariants.{End}
 
-module _ (rows : List Row) (len : ℕ) (within : len ≤ length rows) where
-  pub rows_length : length (map fields (take len rows)) ≡ len
-  rows_length = length-map (take len rows) fields ∙ length-take-le len rows within
+more : (b : Bool) (n : ℕ) → cond b 1 0 + n ≡ cond b (1 + n) n
+more true n = refl
+more false n = omega arith
 
-  pub row_past : (place : ℕ) → len ≤ place → slice_get (map fields (take len rows)) place ≡ None
-  row_past place h = slice_get_past (map fields (take len rows)) place (rw rows_length h)
-
-  pub row_at : (place : ℕ) (d : Row) → place < len → slice_get (map fields (take len rows)) place ≡ Some (fields (get_or rows place d))
-  row_at place d h =
-      let inside : place < length (take len rows) = rw (length-take-le len rows within) h in
-      let inside' : place < length (map fields (take len rows)) = rw rows_length h in
-      slice_get-get_or (map fields (take len rows)) place (fields d) inside'
-      ∙ ap (λ (x : Fields). Some x) (get_or-map fields (take len rows) place d (fields d) inside ∙ ap fields (get_or-take len rows place d h))
-
-pub moves_append : (fs gs : List Fields) → moves_in (fs ++ gs) ≡ moves_in fs + moves_in gs
-moves_append [] gs = sym (zero-add (moves_in gs))
-moves_append (f ∷ fs) gs = ap (λ n. cond (is_move f) 1 0 + n) (moves_append fs gs) ∙ sym (add_assoc (cond (is_move f) 1 0) (moves_in fs) (moves_in gs))
-
--- one row more counts one more move, or none
-pub moves_more : (rows : List Row) (i : ℕ) (d : Row) → i < length rows
-    → moves_in (map fields (take (i + 1) rows)) ≡ moves_in (map fields (take i rows)) + cond (is_move (fields (get_or rows i d))) 1 0
-moves_more rows i d h =
-    ap moves_in (map_more fields rows i d h)
-    ∙ (moves_append (map fields (take i rows)) (fields (get_or rows i d) ∷ []) ∙ ap (λ n. moves_in (map fields (take i rows)) + n) (add-zero _))
+pub moves_counted : (rows : List (Row (List ℕ))) → moves_in (map fields rows) ≡ count_by (λ row. is_move (fields row)) rows
+moves_counted rows =
+    is_count_by (λ xs. moves_in (map fields xs)) (λ row. is_move (fields row)) refl (λ row xs. more (is_move (fields row)) (moves_in (map fields xs))) rows
 
 -- code has as many rows as it counts
 pub code_length : (c : Code) → length (rows_of c) ≡ c.len
 unfolding rows_of
-code_length c = rows_length c.rows c.len (omega (arith, c.whole, c.room, c.few))
+code_length c = length-map (take c.len c.rows) fields ∙ length-take-le c.len c.rows (omega (arith, c.whole, c.room, c.few))
+
+-- each of its rows keeps its bounds
+pub row_within : (c : Code) (place : ℕ) (o : Option (Row (List ℕ))) → o ≡ slice_get (take c.len c.rows) place
+    → IfSome o (λ row. row_fits c.numbers c.reach row ≡ true)
+row_within c place None e = tt
+row_within c place (Some row) e =
+    let inside : place < c.len = omega (arith, slice_get_within (take c.len c.rows) place row (sym e), length-take c.len c.rows) in
+    let there : get_or c.rows place End ≡ row =
+    sym (get_or-take c.len c.rows place End inside) ∙ get_or_from_slice_get (take c.len c.rows) place row End (sym e) in
+    rw there at (c.fits place inside)

@@ -6,15 +6,17 @@ use crate::row::Row;
 
 mod ask;
 mod bounds;
-mod build;
+pub mod build;
 
 // The most rows, and the most numbers, that a piece of code has.
 pub const MOST_ROWS: usize = 512;
 
 // A piece of code: at most `reach` rows, whose targets are below `reach` and whose numbers are below `numbers`.
-// It is complete when it has `reach` rows.
+// It is complete when it has `reach` rows. A library takes no heap, so the rows lie in an array beside their number; a derived
+// equality would compare the rest of the array too.
 #[derive(Clone, Copy)]
 pub struct Code {
+    // an array and a length, since the library takes no heap
     rows: [Row; 512],
     len: usize,
     reach: usize,

@@ -1,8 +1,8 @@
 -- What the array of registers says of each group. Assumes nothing.
-use Rattle.std.specs.Prelude.{ℕ, ◌<◌, ◌≤◌, cond, List, length, slice_index, slice_index_or}
+use Rattle.std.specs.Prelude.{ℕ, ◌<◌, ◌≤◌, cond, List, length, slice_index, slice_index_or, None, Option}
 use Rattle.graph.specs.Shape.{Shape}
 use Rattle.board.specs.Boards.{merged_graph, opened_graph, table_of}
-use Rattle.session_laws.specs.Colouring.{none}
+use Rattle.session_laws.specs.Colouring.{none, or_none}
 use Rattle.standing.specs.Standing.{board_of}
 use Rattle.standing.specs.declared.standing.Standing.{Standing}
 
@@ -11,8 +11,8 @@ abbrev pub merged_under : Standing → Shape
 merged_under s = merged_graph (board_of s)
 
 -- groups past the end have no register
-abbrev pub read_at : List ℕ → ℕ → ℕ
-read_at groups w = slice_index_or groups w none
+abbrev pub read_at : List (Option ℕ) → ℕ → ℕ
+read_at groups w = or_none (slice_index_or groups w None)
 
 -- a member has the register of its group
 abbrev pub member_register : Standing → (ℕ → ℕ) → ℕ → ℕ

@@ -1,7 +1,7 @@
 -- What a table means, new and after a pair is joined. Assumes nothing.
-use Rattle.std.proofs.Common.{◌≡◌, ℕ, ◌+◌, ◌-◌, ◌/◌, ◌<◌, ◌≤◌, Bool, false, not, ◌&&◌, ◌||◌, eqb, ltb, leb, List, length, get_or, set, replicate, Ok, sym, refl, ap, ◌∙◌, subst, ap₂, inl, inr, arith, length-set}
+use Rattle.std.proofs.Common.{◌≡◌, ℕ, ◌+◌, ◌-◌, ◌/◌, ◌<◌, ◌≤◌, Bool, false, not, ◌&&◌, ◌||◌, eqb, ltb, List, length, get_or, set, replicate, Ok, sym, refl, ap, ◌∙◌, subst, ap₂, inl, inr, arith, length-set}
 use lib.ListN.{length-replicate, get_or-replicate, get_or-eq_default}
-use Rattle.std.proofs.lemmas.Bool.{cases_Bool, cases_lt, eqb-false, eq-eqb, ne_eqb, eqb-true, lt-ltb, or_parts, leb-false, and_parts, not-true, not_from_true}
+use Rattle.std.proofs.lemmas.Bool.{cases_Bool, cases_lt, eqb-false, eq-eqb, ne_eqb, eqb-true, lt-ltb, and_parts, not-true, not_from_true}
 use Rattle.std.proofs.lemmas.Bool.Decides.{nat_tests}
 use Rattle.graph.specs.Judging.{judged}
 use Rattle.graph.specs.Joining.{with_pair, judge_of, join_meaning}
@@ -23,14 +23,8 @@ use Rattle.edges.proofs.Places.{key_some, key_apart, place_below}
 pub joined_key : (n : ℕ) (words : List ℕ) (u v : ℕ) → u < n → v < n → (u ≡ v → ⊥) → (table_shape n words).joined u v ≡ has_key words (key u v)
 joined_key n words u v hu hv ne = rw (lt-ltb u n hu, lt-ltb v n hv, ne_eqb u v ne)
 
-pub two_inside : (n u v : ℕ) → ((leb n u || leb n v) || eqb u v) ≡ false → (u < n) × (v < n) × (u ≡ v → ⊥)
-two_inside n u v h =
-    let p = or_parts (leb n u || leb n v) (eqb u v) h in
-    let q = or_parts (leb n u) (leb n v) p.0 in
-    (leb-false n u q.0, leb-false n v q.1, eqb-false u v p.1)
-
 pub table_fresh : (n : ℕ) (words : List ℕ) (u v : ℕ) (j : Bool) → j ≡ (table_shape n words).joined u v →
-    Fresh ≡ judged n u v (ltb u n && ltb v n) j → judge_of (table_shape n words) u v ≡ Fresh
+    Ok Fresh ≡ judged n u v (ltb u n && ltb v n) j → judge_of (table_shape n words) u v ≡ Ok Fresh
 table_fresh n words u v j hj e =
     seen_fresh (table_shape n words) u v n (ltb u n) (ltb v n) j refl refl refl hj e
 
@@ -43,7 +37,7 @@ unfolding pairs_in
 table_room n words used e h = ne_eqb (length words / 2 - joined_pairs (table_shape n words)) 0 (λ z. omega arith)
 
 -- the slot of a fresh pair's word
-pub landed : (n : ℕ) (words : List ℕ) (u v used : ℕ) → judge_of (table_shape n words) u v ≡ Fresh → used ≡ filled words →
+pub landed : (n : ℕ) (words : List ℕ) (u v used : ℕ) → judge_of (table_shape n words) u v ≡ Ok Fresh → used ≡ filled words →
     used < length words / 2 → (d : ℕ) × Landed words (key u v) d
 landed n words u v used e full room =
     let k = fresh_pair (table_shape n words) u v e in
@@ -61,7 +55,7 @@ pub record Put (n : ℕ) (words after : List ℕ) (u v : ℕ) : Type 0 where
   pub long : length after ≡ length words
   pub means : table_meaning n after ≡ record { shape = with_pair (table_shape n words) u v; free = (table_meaning n words).free - 1 }
 
-pub put : (n : ℕ) (words : List ℕ) (u v d : ℕ) → Fit n (length words) → judge_of (table_shape n words) u v ≡ Fresh → Gapless words →
+pub put : (n : ℕ) (words : List ℕ) (u v d : ℕ) → Fit n (length words) → judge_of (table_shape n words) u v ≡ Ok Fresh → Gapless words →
     (l : Landed words (key u v) d) → Put n words (set words (place (length words) (key u v) d) (key u v)) u v
 unfolding pairs_in
 put n words u v d fit e g l =
@@ -138,7 +132,7 @@ pub record Written (n : ℕ) (words : List ℕ) (u v slot word : ℕ) : Type 0 w
   pub after : table_meaning n (set words slot word) ≡ join_meaning (table_meaning n words) u v
 
 pub written : (n : ℕ) (words : List ℕ) (u v used slot word : ℕ) → Fit n (length words) → Gapless words → used ≡ pairs_in n words →
-    used ≡ filled words → judge_of (table_shape n words) u v ≡ Fresh → used < length words / 2 → word ≡ key u v →
+    used ≡ filled words → judge_of (table_shape n words) u v ≡ Ok Fresh → used < length words / 2 → word ≡ key u v →
     slot ≡ slot_at words word (landing words word) → Written n words u v slot word
 written n words u v used slot word fit g ep ef e room ew es =
     let w = landed n words u v used e ef room in

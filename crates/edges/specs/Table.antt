@@ -1,5 +1,5 @@
 -- What n vertices and a row of slots mean. Assumes nothing.
-use Rattle.std.specs.Prelude.{ℕ, ◌-◌, ◌/◌, ◌≤◌, Bool, false, not, ◌&&◌, ◌||◌, List, length, Some, None, Option, Result, ◌==◌, nat_eq, nat_le, nat_lt, slice_index}
+use Rattle.std.specs.Prelude.{◌≡◌, ℕ, ◌-◌, ◌/◌, ◌≤◌, Bool, false, not, ◌&&◌, ◌||◌, List, length, replicate, Some, None, Option, Result, ◌==◌, nat_eq, nat_le, nat_lt, slice_index}
 use Rattle.graph.specs.Counting.{count, any, first}
 use Rattle.graph.specs.Opening.{opening}
 use Rattle.graph.specs.Shape.{Shape, Meaning}
@@ -64,6 +64,11 @@ Fit n slots = (32 ≤ n) × (n ≤ 512) × (2 ≤ slots)
 abbrev pub table_opening : ℕ → ℕ → Result (Unit {0}) OpeningRefusal
 table_opening n slots = opening n (nat_le 2 slots)
 
+-- what a new table is: its size, its slots, the loan that they are, and what it means
+abbrev pub NewTable : {Name : Type 0} → ℕ → List ℕ → Name → ℕ → List ℕ → Name → Type 0
+NewTable n memory loan size words name =
+    (size ≡ n) × (words ≡ replicate (length memory) 0) × (name ≡ loan) × (table_meaning size words ≡ empty_store n (length memory / 2))
+
 -- whether so many slots are enough, whatever the size
 abbrev pub two_slots : ℕ → ℕ → Bool
 two_slots slots n = nat_le 2 slots
@@ -71,6 +76,3 @@ two_slots slots n = nat_le 2 slots
 -- how many pairs a new table has room for, whatever the size
 abbrev pub half_of : ℕ → ℕ → ℕ
 half_of slots n = slots / 2
-
-abbrev pub empty_table : (ℕ → ℕ) → ℕ → Meaning
-empty_table room n = empty_store n (room n)

@@ -1,4 +1,5 @@
 // Opening that asks nothing of the caller: the check, the opening, and then the task.
+// Each store has its own: of a generic one, over stores with a lifetime, the clause on refused memory is not admitted.
 ghost use Rattle.std.specs.Prelude.{◌≡◌, ◌/◌, length};
 ghost use Rattle.graph.specs.Stores.{Ran, empty_store};
 ghost use Rattle.edges.specs.Table.{table_opening};

@@ -1,12 +1,12 @@
 // Opening a table, and the calls that it answers as a graph.
 ghost use Rattle.std.specs.Prelude.{◌≡◌, ◌/◌, length, replicate, Ok};
 ghost use Rattle.graph.specs.Joining.{join_meaning};
-ghost use Rattle.graph.specs.Stores.{empty_store};
-ghost use Rattle.edges.specs.Table.{slot_at, landing, table_meaning, table_opening};
+ghost use Rattle.graph.specs.Stores.{empty_store, Opened};
+ghost use Rattle.edges.specs.Table.{slot_at, landing, table_meaning, table_opening, NewTable};
 ghost use Rattle.edges.specs.Lawful.{table_lawful};
 
 use crate::edge_table::EdgeTable;
-use crate::probing::{clear, finds, key_of, slot_for};
+use crate::probing::{finds, key_of, slot_for};
 use graph::Graph;
 use graph::opening::{OpeningRefusal, check_opening};
 use graph::pair::{Pair, judge};
@@ -28,12 +28,21 @@ impl<'a> EdgeTable<'a> {
         ensures same { result.words.ghost_name ≡ memory.entry.ghost_name }
         ensures empty { table_meaning result.n result.words.now ≡ empty_store n (length memory.old / 2) }
     {
-        clear(memory);
+        memory.fill(0);
         EdgeTable {
             n,
             used: 0,
             words: memory,
         }
+    }
+
+    // The same where the check grants it, so that the caller owes nothing. Each store has its own two lines: a trait with a lifetime
+    // may not give its functions a body yet. No clause on lent memory is admitted here, so that of a refusal is `check`'s to promise.
+    pub fn try_open(n: usize, memory: &'a mut [u32]) -> Result<EdgeTable<'a>, OpeningRefusal>
+        ensures { Opened (λ store. NewTable n memory.old memory.entry.ghost_name store.n store.words.now store.words.ghost_name) (table_opening n (length memory.old)) result }
+    {
+        EdgeTable::check(n, memory)?;
+        Ok(EdgeTable::open(n, memory))
     }
 
     // The slot in which the word or an empty slot is met.
@@ -68,29 +77,9 @@ impl Graph for EdgeTable<'_> {
         finds(self.words, key_of(u, v))
     }
 
-    fn degree(&self, u: usize) -> usize {
-        let mut found = 0;
-        for v in 0..self.n {
-            if self.joined(u, v) {
-                found += 1;
-            }
-        }
-        found
-    }
-
-    fn next(&self, u: usize, from: usize) -> Option<usize> {
-        for v in from..self.n {
-            if self.joined(u, v) {
-                return Some(v);
-            }
-        }
-        None
-    }
-
     fn join(&mut self, u: usize, v: usize) -> Result<(), Refusal> {
         let n = self.n;
-        match judge(n, u, v, (u < n) & (v < n), self.joined(u, v)) {
-            Pair::Refused(refusal) => Err(refusal),
+        match judge(n, u, v, (u < n) & (v < n), self.joined(u, v))? {
             Pair::Present => Ok(()),
             Pair::Fresh => {
                 if self.used >= self.words.len() / 2 {

@@ -3,3 +3,4 @@ pub mod InUse
 pub mod Operands
 pub mod Outcome
 pub mod Reading
+pub mod Words

@@ -1,6 +1,8 @@
 ghost use Rattle.std.specs.Prelude.{◌≡◌};
 ghost use Rattle.fields.specs.Faults.{number_of, place_of};
 
+mod words;
+
 // Why a record is refused, each with the place that the refusal names.
 #[derive(Clone, Copy, PartialEq, Eq, Debug)]
 pub enum RecordFault {
@@ -20,6 +22,7 @@ pub enum RecordFault {
 
 impl RecordFault {
     // The refusal's number.
+    // No `From`: a fault has two numbers, this one and its place.
     pub fn number(self) -> u8
         ensures { result ≡ number_of self }
     {

@@ -1,8 +1,11 @@
-ghost use Rattle.std.specs.Prelude.{◌≡◌};
+ghost use Rattle.std.specs.Prelude.{◌≡◌, ◌/◌, ◌%◌, ◌^◌};
+ghost use Rattle.classes.specs.Names as class;
 ghost use Rattle.fields.specs.InUse.{in_use, class_of, below_given};
 
+use classes::Class;
+
 // What a record may hold: the registers and values in use, how far targets go, and whether slots may stand.
-#[derive(Clone, Copy)]
+#[derive(Clone, Copy, PartialEq, Eq, Debug)]
 pub struct Limits {
     // registers in use of class 0, numbered from 0, and of class 1, numbered from 16
     pub k0: u8,
@@ -22,36 +25,39 @@ impl Limits {
     pub fn in_use(&self, number: u16) -> bool
         ensures { result ≡ in_use self.now number }
     {
-        let register = (number < self.k0 as u16)
-            | ((number >= 16) & (number < 16 + self.k1 as u16));
-        register | ((number >= 32) & ((number as u32) < 32 + self.values as u32))
+        let value = u32::from(number);
+        (number < u16::from(self.k0))
+            | (16..16 + u16::from(self.k1)).contains(&number)
+            | (32..32 + u32::from(self.values)).contains(&value)
+    }
+
+    // The class of a value, by its bit.
+    fn class_of_value(&self, bit: u16) -> Class
+        ensures { class.number result ≡ self.now.classes / 2 ^ bit % 2 }
+    {
+        let classes = self.classes;
+        if bit < 128 && (classes >> bit) % 2 == 1 {
+            Class::One
+        } else {
+            Class::Zero
+        }
     }
 
     // The class of a number: a register's by its bank, a value's by its bit.
-    pub fn class_of(&self, number: u16) -> u8
-        ensures { result ≡ class_of self.now number }
+    pub fn class_of(&self, number: u16) -> Class
+        ensures { class.number result ≡ class_of self.now number }
     {
-        if number < 16 {
-            return 0;
+        match number {
+            0..=15 => Class::Zero,
+            16..=31 => Class::One,
+            _ => self.class_of_value(number - 32),
         }
-        if number < 32 {
-            return 1;
-        }
-        let classes = self.classes;
-        let bit = number - 32;
-        if bit >= 128 {
-            return 0;
-        }
-        ((classes >> bit) % 2) as u8
     }
 
     // Whether slots may stand, and this is one of them.
     pub fn has_slot(&self, number: u16) -> bool
         ensures { result ≡ below_given self.now.slots number }
     {
-        match self.slots {
-            Some(count) => number < count,
-            None => false,
-        }
+        self.slots.is_some_and(|count| number < count)
     }
 }

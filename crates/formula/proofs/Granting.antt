@@ -1,5 +1,5 @@
 -- A record that keeps the rules fits the code of its formula.
-use Rattle.std.proofs.Common.{◌≡◌, ℕ, ◌+◌, ◌<◌, ◌≤◌, true, ltb, length, Some, None, Option, refl, arith}
+use Rattle.std.proofs.Common.{◌≡◌, ℕ, ◌+◌, ◌<◌, ◌≤◌, true, ltb, List, length, Some, None, Option, refl, arith}
 use Rattle.std.proofs.lemmas.Bool.{and_parts, and_from, lt-ltb}
 use Rattle.std.proofs.lemmas.Bool.Decides.{nat_tests}
 use Rattle.code.specs.Codes.{rows_of, takes}
@@ -25,7 +25,7 @@ target_below : (n : ℕ) (o : Option ℕ) → passes (short (λ t. ltb t n)) o �
 target_below n None e = refl
 target_below n (Some t) e = (and_parts (ltb t 65536) (ltb t n) e).1
 
-pub keeps_fits : (l : Limits) (row : Row) → l.k0 ≤ 16 → l.k1 ≤ 16 → Keeps l (fields row) → row_fits (32 + l.values) l.targets row ≡ true
+pub keeps_fits : (l : Limits) (row : Row (List ℕ)) → l.k0 ≤ 16 → l.k1 ≤ 16 → Keeps l (fields row) → row_fits (32 + l.values) l.targets row ≡ true
 unfolding row_fits
 keeps_fits l row few₀ few₁ k =
     and_from _ _ (operand_below l (fields row).destination few₀ few₁ k.destination)
@@ -34,7 +34,7 @@ keeps_fits l row few₀ few₁ k =
     (target_below l.targets (fields row).target k.target)))
 
 -- so code with room takes it
-pub granted : (l : Limits) (code : Code) (row : Row) → l.k0 ≤ 16 → l.k1 ≤ 16 → code.reach ≡ l.targets → code.numbers ≡ 32 + l.values
+pub granted : (l : Limits) (code : Code) (row : Row (List ℕ)) → l.k0 ≤ 16 → l.k1 ≤ 16 → code.reach ≡ l.targets → code.numbers ≡ 32 + l.values
     → length (rows_of code) < code.reach → Keeps l (fields row) → takes code row ≡ true
 granted l code row few₀ few₁ reach numbers room k =
     let less : code.len < code.reach = omega (arith, code_length code) in

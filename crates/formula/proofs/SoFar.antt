@@ -1,5 +1,5 @@
 -- What holds of the records that were read so far.
-use Rattle.std.proofs.Common.{◌≡◌, ℕ, zero, suc, ◌+◌, ◌-◌, ◌<◌, Bool, false, List, [], ◌∷◌, ◌++◌, length, take, set, sym, refl, ap, ◌∙◌, append_assoc, append-nil, add-zero, add-suc, add-one, arith, length-append, length-set}
+use Rattle.std.proofs.Common.{◌≡◌, ℕ, zero, suc, ◌+◌, ◌-◌, ◌<◌, Bool, List, [], ◌∷◌, ◌++◌, length, take, set, sym, refl, ap, ◌∙◌, append_assoc, append-nil, add-zero, add-suc, add-one, arith, length-append, length-set}
 use Rattle.std.proofs.lemmas.List.{take_more_set, length_push}
 use Rattle.code.specs.Codes.{rows_of}
 use Rattle.code.specs.Rows.{Fields}
@@ -19,7 +19,7 @@ pub record SoFar (l : Limits) (bytes : List ℕ) (at reach numbers i : ℕ) (cod
   pub reached : code.reach ≡ reach
   pub numbered : code.numbers ≡ numbers
   pub many : length (rows_of code) ≡ i
-  pub whole : length starts ≡ 128
+  pub whole : length starts ≡ reach
   pub began : take i starts ≡ starts_from at (rows_of code)
   pub ended : closed ≡ formulas.closed (rows_of code)
 
@@ -43,26 +43,12 @@ pub rows_bad : (l : Limits) (bytes : List ℕ) (at i d n p : ℕ) → formulas.r
 rows_bad l bytes at i zero n p e = rw add-zero e
 rows_bad l bytes at i (suc d) n p e = rw (add-suc i d, rows_bad l bytes at i d n p e) refl
 
-module _ (l : Limits) (bytes : List ℕ) (at reach numbers : ℕ) where
-  pub so_far_none : (code : Code) (starts : List ℕ) → rows_of code ≡ [] → code.reach ≡ reach → code.numbers ≡ numbers → length starts ≡ 128
-      → SoFar l bytes at reach numbers 0 code starts at false at
-  so_far_none code starts none r n whole = record {
-    value = rw none refl;
-    placed = rw none (sym (add-zero at));
-    reached = r;
-    numbered = n;
-    many = rw none refl;
-    whole = whole;
-    began = rw none refl;
-    ended = rw none refl;
-  }
-
-  pub so_far_more : (i : ℕ) (code : Code) (starts : List ℕ) (last : ℕ) (closed : Bool) (place : ℕ)
-      → SoFar l bytes at reach numbers i code starts last closed place → Bytes bytes → i < 128
-      → (f : Fields) (q : ℕ) (code' : Code) → record_at l bytes place ≡ got f q
+module _ {l : Limits} {bytes : List ℕ} {at reach numbers i : ℕ} {code : Code} {starts : List ℕ} {last : ℕ} {closed : Bool} {place : ℕ}
+    (so : SoFar l bytes at reach numbers i code starts last closed place) where
+  pub so_far_more : {f : Fields} {q : ℕ} {code' : Code} → Bytes bytes → i < reach → record_at l bytes place ≡ got f q
       → rows_of code' ≡ rows_of code ++ (f ∷ []) → code'.reach ≡ code.reach → code'.numbers ≡ code.numbers
       → SoFar l bytes at reach numbers (i + 1) code' (set starts i place) place (formulas.goes_nowhere f) q
-  so_far_more i code starts last closed place so ok less f q code' e rows r n =
+  so_far_more {f = f} {q = q} ok less e rows r n =
       let sound = record_sound bytes ok l place f q e in
       let inside : i < length starts = omega (arith, so.whole) in
       record {
@@ -77,10 +63,8 @@ module _ (l : Limits) (bytes : List ℕ) (at reach numbers : ℕ) where
       }
 
   -- a record that is refused is a refusal of all of them
-  pub so_far_bad : (i : ℕ) (code : Code) (starts : List ℕ) (last : ℕ) (closed : Bool) (place : ℕ)
-      → SoFar l bytes at reach numbers i code starts last closed place → (m n p : ℕ) → i < m → record_at l bytes place ≡ bad n p
-      → formulas.rows_at l bytes at m ≡ bad n p
-  so_far_bad i code starts last closed place so m n p less e =
+  pub so_far_bad : {m n p : ℕ} → i < m → record_at l bytes place ≡ bad n p → formulas.rows_at l bytes at m ≡ bad n p
+  so_far_bad {m = m} {n = n} {p = p} less e =
       let here : formulas.rows_at l bytes at (suc i) ≡ bad n p = rw (so.value, e) refl in
       let all = rows_bad l bytes at (suc i) (m - suc i) n p here in
       let sum : suc i + (m - suc i) ≡ m = omega arith in

@@ -1,5 +1,6 @@
 -- How a whole formula is read: the header, the records, and then that nothing is left and that the last record goes nowhere.
-use Rattle.std.specs.Prelude.{ℕ, zero, suc, Bool, false, cond, ◌||◌, List, [], ◌∷◌, ◌++◌, length, ◌==◌, nat_lt}
+use Rattle.std.specs.Prelude.{ℕ, zero, suc, Bool, false, cond, List, [], ◌∷◌, ◌++◌, length, nat_lt}
+pub use Rattle.code.specs.Codes.{goes_nowhere}
 use Rattle.code.specs.Rows.{Fields}
 use Rattle.fields.specs.Reading.{Read, got, bad, then}
 use Rattle.records.specs.Records.{record_at}
@@ -20,10 +21,6 @@ next_row l bytes r place = then (record_at l bytes place) (λ f next. got (recor
 abbrev pub rows_at : Limits → List ℕ → ℕ → ℕ → Read Rows
 rows_at l bytes place zero = got (record { rows = []; last = place }) place
 rows_at l bytes place (suc n) = then (rows_at l bytes place n) (next_row l bytes)
-
--- control does not run past a jump or an end
-abbrev pub goes_nowhere : Fields → Bool
-goes_nowhere f = f.kind == 4 || f.kind == 7
 
 -- whether the last row is a jump or an end
 abbrev pub closed : List Fields → Bool

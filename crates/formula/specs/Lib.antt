@@ -6,3 +6,4 @@ pub mod Laws
 pub mod Outcome
 pub mod Starts
 pub mod Worked
+pub mod Words

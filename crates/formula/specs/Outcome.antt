@@ -1,5 +1,5 @@
 -- What the calls answer, as readings.
-use Rattle.std.specs.Prelude.{◌≡◌, ℕ, ◌+◌, List, length, Ok, Err, Result}
+use Rattle.std.specs.Prelude.{◌≡◌, ℕ, ◌+◌, Bool, true, false, List, length, Ok, Err, Result}
 use Rattle.code.specs.Codes.{rows_of}
 use Rattle.fields.specs.Faults as records
 use Rattle.fields.specs.Reading.{Read, got, bad}
@@ -11,6 +11,7 @@ use Rattle.formula.specs.Formulas as formulas
 use Rattle.formula.specs.Headers as headers
 use Rattle.formula.specs.Starts.{starts_from}
 use Rattle.formula.specs.declared.fault.FormulaFault.{FormulaFault}
+use Rattle.formula.specs.declared.fault.FormulaFault.TheVariants.{OutOfRange}
 use Rattle.formula.specs.declared.formula.Formula.{Formula}
 use Rattle.formula.specs.declared.formula.rows.Body.{Body}
 use Rattle.formula.specs.declared.header.Header.{Header}
@@ -19,6 +20,11 @@ use Rattle.formula.specs.declared.header.Header.{Header}
 abbrev pub read_as : {A B : Type 0} → (A → B) → Result A FormulaFault → ℕ → Read B
 read_as meaning (Ok value) next = got (meaning value) next
 read_as meaning (Err fault) next = bad (number_of fault) (place_of fault)
+
+-- a number that passes its check, or the fault that the field at this place is out of range
+abbrev pub kept : {A : Type 0} → Bool → A → ℕ → Result A FormulaFault
+kept true n at = Ok n
+kept false n at = Err (OutOfRange at)
 
 -- a header, which ends behind the classes, or a fault
 abbrev pub header_read : Result Header FormulaFault → Read headers.Fields

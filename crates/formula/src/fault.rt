@@ -4,6 +4,8 @@ ghost use Rattle.formula.specs.declared.fault.FormulaFault.TheVariants.{Record};
 
 use fields::RecordFault;
 
+mod words;
+
 // Why a formula is refused, each with the place that the refusal names.
 #[derive(Clone, Copy, PartialEq, Eq, Debug)]
 pub enum FormulaFault {
@@ -31,6 +33,7 @@ impl From<RecordFault> for FormulaFault {
 
 impl FormulaFault {
     // The refusal's number.
+    // No `From`: a fault has two numbers, this one and its place.
     pub fn number(self) -> u8
         ensures { result ≡ number_of self }
     {
@@ -50,11 +53,11 @@ impl FormulaFault {
     {
         match self {
             FormulaFault::Record(fault) => fault.place(),
-            FormulaFault::OutOfRange { at } => at,
-            FormulaFault::PaddingSet { at } => at,
-            FormulaFault::BytesRemain { at } => at,
-            FormulaFault::LastGoesOn { at } => at,
-            FormulaFault::UsedBeforeSet { value } => value as usize,
+            FormulaFault::OutOfRange { at }
+            | FormulaFault::BytesRemain { at }
+            | FormulaFault::LastGoesOn { at }
+            | FormulaFault::PaddingSet { at } => at,
+            FormulaFault::UsedBeforeSet { value } => usize::from(value),
         }
     }
 }

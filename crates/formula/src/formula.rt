@@ -17,6 +17,7 @@ pub use read::{read_formula, read_written};
 pub struct Formula {
     header: Header,
     code: Code,
+    // an array, since the library takes no heap; the header says how many of them stand
     starts: [usize; 128],
     ghost whole: { length starts ≡ 128 },
     ghost reaches: { code.reach ≡ header.records },

@@ -1,11 +1,11 @@
 -- The view that joins the fixed vertices to one another. Assumes nothing.
-use Rattle.std.proofs.Common.{◌≡◌, ℕ, Bool, true, false, not, ◌&&◌, ◌||◌, eqb, refl, inl, inr, arith}
+use Rattle.std.proofs.Common.{◌≡◌, ℕ, Bool, true, false, not, ◌&&◌, ◌||◌, eqb, refl, ap₂, inl, inr, arith}
 use Rattle.std.proofs.lemmas.Bool.{and_parts, or_cases, or_left}
 use Rattle.std.proofs.lemmas.Bool.Decides.{nat_tests}
 use Rattle.graph.specs.Shape.{Shape}
 use Rattle.graph.specs.Joining.{same_pair}
 use Rattle.graph.specs.Views.{View, clique_view}
-use Rattle.graph.proofs.Pairs.{same_shape, eqb_sym, eqb_same}
+use Rattle.graph.proofs.Pairs.{same_shape, eqb_sym, eqb_same, both_turned}
 
 -- the pairs that the view adds
 abbrev both_fixed : (ℕ → Bool) → Shape → ℕ → ℕ → Bool
@@ -13,12 +13,6 @@ both_fixed fixed s u v = ((fixed u && s.stands u) && (fixed v && s.stands v)) &&
 
 or_moved : (j p f : Bool) → ((j || p) || f) ≡ ((j || f) || p)
 or_moved j p f = grind (arith, nat_tests)
-
-both_turned : (x y k l : Bool) → x ≡ y → ((k && l) && not x) ≡ ((l && k) && not y)
-both_turned x y k l e = grind (arith, nat_tests)
-
-or_same : (x y z w : Bool) → x ≡ y → z ≡ w → (x || z) ≡ (y || w)
-or_same x y z w e f = cc
 
 never_itself : (j e k : Bool) → j ≡ false → e ≡ true → (j || (k && not e)) ≡ false
 never_itself j e k f g = grind (arith, nat_tests)
@@ -34,7 +28,7 @@ clique_is_view fixed = record {
     least = l.least;
     most = l.most;
     inside = l.inside;
-    symmetric = λ u v. or_same (s.joined u v) (s.joined v u) (both_fixed fixed s u v) (both_fixed fixed s v u) (l.symmetric u v)
+    symmetric = λ u v. ap₂ (λ x y. x || y) (l.symmetric u v)
         (both_turned (eqb u v) (eqb v u) (fixed u && s.stands u) (fixed v && s.stands v) (eqb_sym u v));
     apart = λ v. never_itself (s.joined v v) (eqb v v) ((fixed v && s.stands v) && (fixed v && s.stands v)) (l.apart v) (eqb_same v);
     standing = λ u v h. elim (or_cases (s.joined u v) (both_fixed fixed s u v) h) [

@@ -1,6 +1,9 @@
 -- Laws of counting, of whether any passes, and of the first that passes. Assumes nothing.
-use Rattle.std.proofs.Common.{◌≡◌, ℕ, zero, suc, ◌+◌, ◌-◌, ◌<◌, ◌≤◌, Bool, true, false, cond, Some, None, Option, sym, refl, ap, ◌∙◌, inl, inr, add-zero, add-suc, suc-add, zero-add, add-one, arith}
-use Rattle.std.proofs.lemmas.Bool.{cases_Bool, cases_eq, cases_lt, cases_order, cond_both, or_cases, or_left, or_right, true≢false, false≢true}
+use Rattle.std.proofs.Common.{◌≡◌, ℕ, zero, suc, ◌+◌, ◌-◌, ◌<◌, ◌≤◌, Bool, true, false, cond, Decides, Some, None, Option, sym, refl, ap, ◌∙◌, inl, inr, add-zero, add_assoc, one-add, add-suc, suc-add, zero-add, add-one, arith, length}
+use Rattle.std.proofs.lemmas.Bool.{cases_Bool, cases_eq, cases_lt, cond_both}
+use Rattle.std.proofs.lemmas.Bool.Decides.{Decides-below_or}
+use Rattle.std.specs.List.{filter, range_with_len}
+use Rattle.std.specs.Option.{MatchOption, IfSome}
 use Rattle.graph.specs.Counting.{count, any, first}
 
 -- one more number, as code counts
@@ -32,36 +35,22 @@ first_later p from n h e =
 pub first_none : (p : ℕ → Bool) (from n : ℕ) → n ≤ from → first p from (n - from) ≡ None
 first_none p from n h = let none : n - from ≡ zero = omega arith in rw none
 
-pub count_passed : (p : ℕ → Bool) (n found : ℕ) → found ≡ count p n → p n ≡ true → found + 1 ≡ count p (n + 1)
-count_passed p n found h e = let more : count p (n + 1) ≡ count p n + 1 = rw (add-one n, e) in omega arith
-
-pub count_failed : (p : ℕ → Bool) (n found : ℕ) → found ≡ count p n → p n ≡ false → found ≡ count p (n + 1)
-count_failed p n found h e = let more : count p (n + 1) ≡ count p n + 0 = rw (add-one n, e) in omega arith
+-- `any` is true exactly when some number below n passes
+any_decides : (p : ℕ → Bool) (n : ℕ) → Decides (any p n) ((k : ℕ) × (k < n) × (p k ≡ true))
+any_decides p n = Decides-below_or p (λ k. p k ≡ true) (any p) (λ k. (λ e. e, λ e. e)) refl (λ _. refl) n
 
 pub any_witness : (p : ℕ → Bool) (n : ℕ) → any p n ≡ true → (k : ℕ) × ((k < n) × (p k ≡ true))
-any_witness p zero h = absurd (false≢true h)
-any_witness p (suc n) h = elim (or_cases (p n) (any p n) h) [
-  | inl e ↦ (n, (omega arith, e))
-  | inr e ↦ let w = any_witness p n e in (w.0, (let below : w.0 < n = w.1.0 in omega arith, w.1.1))
-]
+any_witness p n h = let w = (any_decides p n).0 h in (w.0, (w.1, w.2))
 
 pub any_from : (p : ℕ → Bool) (n k : ℕ) → k < n → p k ≡ true → any p n ≡ true
-any_from p zero k h e = absurd (omega arith)
-any_from p (suc n) k h e = elim (cases_order k n) [
-  | inl same ↦ or_left (p n) (any p n) (rw (sym same) e)
-  | inr (inl less) ↦ or_right (p n) (any p n) (any_from p n k less e)
-  | inr (inr more) ↦ absurd (omega arith)
-]
+any_from p n k h e = (any_decides p n).1 (k, h, e)
 
-pub any_fails : (p : ℕ → Bool) (n k : ℕ) → any p n ≡ false → k < n → p k ≡ false
-any_fails p n k h lt = elim (cases_Bool (p k)) [
-  | inl e ↦ absurd (true≢false (sym (any_from p n k lt e) ∙ h))
-  | inr e ↦ e
-]
-
--- one more number, as code counts
-pub any_more : (p : ℕ → Bool) (n : ℕ) → any p n ≡ false → p n ≡ false → any p (n + 1) ≡ false
-any_more p n h e = rw (add-one n, e) h
+-- only the numbers below n matter
+pub count_same : (p q : ℕ → Bool) (n : ℕ) → ((k : ℕ) → k < n → p k ≡ q k) → count p n ≡ count q n
+count_same p q zero h = refl
+count_same p q (suc n) h =
+    let before : count p n ≡ count q n = count_same p q n (λ k l. h k (omega arith)) in
+    rw (before, h n (omega arith))
 
 pub count_split : (p : ℕ → Bool) (a b : ℕ) → count p (a + b) ≡ count p a + count (λ k. p (a + k)) b
 count_split p a zero = rw (add-zero a) (omega arith)
@@ -168,3 +157,41 @@ count_whole p zero h = refl
 count_whole p (suc n) h =
     let before : count p n ≡ n = count_whole p n (λ k l. h k (omega arith)) in
     rw (before, h n (omega arith)) (add-one n)
+
+-- what a chain over a range counts, and what it finds
+pub count_from : (p : ℕ → Bool) (a n : ℕ) → length (filter p (range_with_len a n)) ≡ count (λ k. p (a + k)) n
+count_from p a zero = refl
+count_from p a (suc n) =
+    let rest : length (filter p (range_with_len (a + 1) n)) ≡ count (λ k. p (a + 1 + k)) n = count_from p (a + 1) n in
+    let split : count (λ k. p (a + k)) (1 + n) ≡ count (λ k. p (a + k)) 1 + count (λ k. p (a + (1 + k))) n = count_split (λ k. p (a + k)) 1 n in
+    let same : count (λ k. p (a + 1 + k)) n ≡ count (λ k. p (a + (1 + k))) n =
+    count_same (λ k. p (a + 1 + k)) (λ k. p (a + (1 + k))) n (λ k _. ap p (add_assoc a 1 k)) in
+    let name : count (λ k. p (a + k)) (1 + n) ≡ count (λ k. p (a + k)) (suc n) = ap (count (λ k. p (a + k))) (one-add n) in
+    let one : p (a + 0) ≡ p a = ap p (add-zero a) in
+    elim (cases_Bool (p a)) [
+      | inl e ↦ rw e (let low : count (λ k. p (a + k)) 1 ≡ 1 = rw (one, e) in omega arith)
+      | inr e ↦ rw e (let low : count (λ k. p (a + k)) 1 ≡ 0 = rw (one, e) in omega arith)
+    ]
+
+pub count_range : (p : ℕ → Bool) (n : ℕ) → length (filter p (range_with_len 0 n)) ≡ count p n
+count_range p n = count_from p 0 n ∙ count_same (λ k. p (0 + k)) p n (λ k _. ap p (zero-add k))
+
+-- the lowest that passes, said of the numbers that were looked at
+pub first_is : (p : ℕ → Bool) (from n : ℕ) (o : Option ℕ) → MatchOption o ((k : ℕ) → from ≤ k → k < n → p k ≡ false)
+    (λ i. (from ≤ i) × (i < n) × (p i ≡ true) × ((k : ℕ) → from ≤ k → k < i → p k ≡ false)) → o ≡ first p from (n - from)
+first_is p from n None h = elim (cases_lt from n) [
+  | inl some ↦
+      let end : from + (n - from) ≡ n = omega arith in
+      let passed = first_skip p (n - from) from n (λ k a b. h k a (omega arith)) in
+      sym (passed ∙ first_none p (from + (n - from)) n (omega arith))
+  | inr none ↦ sym (first_none p from n none)
+]
+first_is p from n (Some i) h =
+    let below : from ≤ i = h.0 in
+    let here : from + (i - from) ≡ i = omega arith in
+    let passed = first_skip p (i - from) from n (λ k a b. h.3 k a (omega arith)) in
+    sym (passed ∙ (ap (λ (x : ℕ). first p x (n - x)) here ∙ first_here p i n h.1 h.2))
+
+pub first_inside : (p : ℕ → Bool) (n : ℕ) (o : Option ℕ) → o ≡ first p 0 n → IfSome o (λ i. i < n)
+first_inside p n None e = tt
+first_inside p n (Some i) e = let f = first_found p n 0 i (sym e) in let below : i < 0 + n = f.1 in omega arith

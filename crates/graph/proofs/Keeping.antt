@@ -4,7 +4,7 @@ use Rattle.std.proofs.lemmas.Bool.{and_parts, and_from}
 use Rattle.std.proofs.lemmas.Bool.Decides.{nat_tests}
 use Rattle.graph.specs.Joining.{same_pair}
 use Rattle.graph.specs.Views.{View, keeping, class_view, removed_view}
-use Rattle.graph.specs.declared.class.Class.{Class}
+use Rattle.classes.specs.declared.class.Class.{Class}
 use Rattle.graph.proofs.Pairs.{same_shape, pair_is}
 
 keep_added : (j p k l : Bool) → (p ≡ true → k ≡ true) → (p ≡ true → l ≡ true) →

@@ -1,4 +1,5 @@
 pub mod Counting
+pub mod Chains
 pub mod Pairs
 pub mod Keeping
 pub mod Clique

@@ -1,5 +1,5 @@
 -- The view in which each group of a table is one vertex. Assumes nothing.
-use Rattle.std.proofs.Common.{◌≡◌, ℕ, ◌<◌, Bool, true, false, not, ◌&&◌, ◌||◌, eqb, sym, refl, ap, ◌∙◌, inl, inr, arith}
+use Rattle.std.proofs.Common.{◌≡◌, ℕ, ◌<◌, Bool, true, false, not, ◌&&◌, ◌||◌, eqb, sym, refl, ap, ap₂, ◌∙◌, inl, inr, arith}
 use Rattle.std.proofs.lemmas.Bool.{and_parts, and_from, or_cases, or_left, or_right, eqb-true, eq-eqb, not_from_false}
 use Rattle.std.proofs.lemmas.Bool.Decides.{nat_tests}
 use Rattle.graph.specs.Counting.{any}
@@ -7,7 +7,7 @@ use Rattle.graph.specs.Shape.{Shape, Lawful}
 use Rattle.graph.specs.Joining.{same_pair, with_pair}
 use Rattle.graph.specs.Views.{View, merged_view, groups_joined, names_group}
 use Rattle.graph.proofs.Counting.{any_witness, any_from}
-use Rattle.graph.proofs.Pairs.{same_shape, eqb_sym, eqb_same, pair_is}
+use Rattle.graph.proofs.Pairs.{same_shape, eqb_sym, eqb_same, pair_is, both_turned, never_same}
 
 -- two tests are one where each gives the other
 pub same_test : (x y : Bool) → (x ≡ true → y ≡ true) → (y ≡ true → x ≡ true) → x ≡ y
@@ -70,16 +70,7 @@ abbrev pub two_groups : (ℕ → ℕ) → Shape → ℕ → ℕ → Bool
 two_groups table s u v = (names_group table s u && names_group table s v) && not (eqb u v)
 
 two_turned : (table : ℕ → ℕ) (s : Shape) (u v : ℕ) → two_groups table s u v ≡ two_groups table s v u
-two_turned table s u v = turned (names_group table s u) (names_group table s v) (eqb u v) (eqb v u) (eqb_sym u v)
-  where
-    turned : (k l x y : Bool) → x ≡ y → ((k && l) && not x) ≡ ((l && k) && not y)
-    turned k l x y e = grind (arith, nat_tests)
-
-and_same : (x y z w : Bool) → x ≡ y → z ≡ w → (x && z) ≡ (y && w)
-and_same x y z w e f = cc
-
-never_itself : (k g e : Bool) → e ≡ true → ((k && not e) && g) ≡ false
-never_itself k g e h = grind (arith, nat_tests)
+two_turned table s u v = both_turned (eqb u v) (eqb v u) (names_group table s u) (names_group table s v) (eqb_sym u v)
 
 name_of : (table : ℕ → ℕ) (s : Shape) (v : ℕ) → names_group table s v ≡ true → table v ≡ v
 name_of table s v h = eqb-true (table v) v (and_parts (s.stands v) (eqb (table v) v) h).1
@@ -198,10 +189,10 @@ merged_is_view table = record {
     least = l.least;
     most = l.most;
     inside = λ v h. l.inside v (and_parts (s.stands v) (eqb (table v) v) h).0;
-    symmetric = λ u v. and_same (two_groups table s u v) (two_groups table s v u) (groups_joined table s u v) (groups_joined table s v u)
+    symmetric = λ u v. ap₂ (λ x y. x && y)
         (two_turned table s u v)
         (same_test (groups_joined table s u v) (groups_joined table s v u) (groups_turned table s l u v) (groups_turned table s l v u));
-    apart = λ v. never_itself (names_group table s v && names_group table s v) (groups_joined table s v v) (eqb v v) (eqb_same v);
+    apart = λ v. never_same (names_group table s v && names_group table s v) (groups_joined table s v v) (eqb v v) (eqb_same v);
     standing = λ u v h.
         (and_parts (names_group table s u) (names_group table s v)
         (and_parts (names_group table s u && names_group table s v) (not (eqb u v))

@@ -1,7 +1,7 @@
 -- Pairs of numbers, and shapes that differ in one pair. Assumes nothing.
-use Rattle.std.proofs.Common.{◌≡◌, ℕ, Bool, true, false, ◌||◌, eqb, ◌⊎◌, refl, ap, inl, inr, arith}
+use Rattle.std.proofs.Common.{◌≡◌, ℕ, Bool, true, false, not, ◌&&◌, ◌||◌, eqb, leb, ◌<◌, ◌⊎◌, refl, ap, ap₂, inl, inr, arith}
 use mathlib.Core.Path.{fun_ext}
-use Rattle.std.proofs.lemmas.Bool.{or_cases, eq-eqb}
+use Rattle.std.proofs.lemmas.Bool.{or_cases, or_parts, eq-eqb, leb-false, eqb-false}
 use Rattle.std.proofs.lemmas.Bool.Decides.{nat_tests}
 use Rattle.graph.specs.Shape.{Shape, Lawful}
 use Rattle.graph.specs.Joining.{same_pair, with_pair}
@@ -24,14 +24,22 @@ pair_sym u v a b = grind (arith, nat_tests)
 pub pair_is : (u v a b : ℕ) → same_pair u v a b ≡ true → ((a ≡ u) × (b ≡ v)) ⊎ ((a ≡ v) × (b ≡ u))
 pair_is u v a b h = grind (arith, nat_tests)
 
-pub pair_here : (u v : ℕ) → same_pair u v u v ≡ true
-pair_here u v = grind (arith, nat_tests)
-
 pub pair_apart : (u v a : ℕ) → eqb u v ≡ false → same_pair u v a a ≡ false
 pair_apart u v a h = grind (arith, nat_tests)
 
-or_sym_parts : (x y z w : Bool) → x ≡ y → z ≡ w → (x || z) ≡ (y || w)
-or_sym_parts x y z w e f = cc
+-- two numbers that are not found outside, nor the same
+pub two_inside : (n u v : ℕ) → ((leb n u || leb n v) || eqb u v) ≡ false → (u < n) × (v < n) × (u ≡ v → ⊥)
+two_inside n u v h =
+    let p = or_parts (leb n u || leb n v) (eqb u v) h in
+    let q = or_parts (leb n u) (leb n v) p.0 in
+    (leb-false n u q.0, leb-false n v q.1, eqb-false u v p.1)
+
+-- what is asked of two different things, asked the other way round, and of a thing and itself
+pub both_turned : (x y k l : Bool) → x ≡ y → ((k && l) && not x) ≡ ((l && k) && not y)
+both_turned x y k l e = grind (arith, nat_tests)
+
+pub never_same : (k g e : Bool) → e ≡ true → ((k && not e) && g) ≡ false
+never_same k g e h = grind (arith, nat_tests)
 
 -- a pair of two different standing vertices can be joined, and the laws still hold
 pub with_pair_lawful : (s : Shape) (u v : ℕ) → s.stands u ≡ true → s.stands v ≡ true → eqb u v ≡ false →
@@ -40,7 +48,7 @@ with_pair_lawful s u v hu hv ne l = record {
   least = l.least;
   most = l.most;
   inside = l.inside;
-  symmetric = λ a b. or_sym_parts _ _ _ _ (l.symmetric a b) (pair_sym u v a b);
+  symmetric = λ a b. ap₂ (λ x y. x || y) (l.symmetric a b) (pair_sym u v a b);
   apart = λ a. let e = l.apart a in let f = pair_apart u v a ne in grind (arith, nat_tests);
   standing = λ a b h. elim (or_cases _ _ h) [
     | inl e ↦ l.standing a b e

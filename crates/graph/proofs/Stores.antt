@@ -1,18 +1,15 @@
 -- Counting the pairs of a store, and one pair more. Assumes nothing.
-use Rattle.std.proofs.Common.{◌≡◌, ℕ, zero, suc, ◌+◌, ◌<◌, ◌≤◌, min, max, Bool, true, false, not, ◌&&◌, ◌||◌, eqb, ltb, sym, refl, ap, ◌∙◌, inl, inr, arith}
+use Rattle.std.proofs.Common.{◌≡◌, ℕ, zero, suc, ◌+◌, ◌<◌, ◌≤◌, min, max, Bool, true, false, not, ◌&&◌, ◌||◌, eqb, ltb, sym, refl, ap, ap₂, ◌∙◌, inl, inr, arith}
+use Rattle.std.proofs.Math.Bool.{or-false}
 use Rattle.std.proofs.lemmas.Bool.{cases_eq, cases_lt, eqb-false, ltb-true, and_parts}
 use Rattle.std.proofs.lemmas.Bool.Decides.{nat_tests}
 use Rattle.graph.specs.Counting.{count}
 use Rattle.graph.specs.Shape.{Shape, Lawful}
 use Rattle.graph.specs.Joining.{same_pair, with_pair}
-use Rattle.graph.proofs.Pairs.{eqb_sym, eqb_same, same_shape}
+use Rattle.graph.proofs.Pairs.{eqb_sym, eqb_same, same_shape, both_turned, never_same}
+use Rattle.graph.proofs.Counting.{count_none}
+pub use Rattle.graph.proofs.Counting.{count_same}
 use Rattle.graph.specs.Stores.{total, joined_pairs, open_pairs, marked_shape, no_pairs}
-
-pub count_same : (p q : ℕ → Bool) (n : ℕ) → ((k : ℕ) → k < n → p k ≡ q k) → count p n ≡ count q n
-count_same p q zero h = refl
-count_same p q (suc n) h =
-    let before : count p n ≡ count q n = count_same p q n (λ k l. h k (omega arith)) in
-    rw (before, h n (omega arith))
 
 -- two tests that differ at one number
 pub count_one : (p q : ℕ → Bool) (n j : ℕ) → j < n → p j ≡ true → q j ≡ false → ((k : ℕ) → k < n → (k ≡ j → ⊥) → p k ≡ q k) →
@@ -72,49 +69,31 @@ joined_row s u v l h = elim (cases_lt u v) [
       rw (hi, lo) h
 ]
 
--- one pair more is one fewer that is not joined
-pub open_with_pair : (s : Shape) (u v : ℕ) → u < s.size → v < s.size → eqb u v ≡ false → Lawful s → s.joined u v ≡ false →
-    open_pairs s ≡ open_pairs (with_pair s u v) + 1
-open_with_pair s u v hu hv ne l h =
+-- two ways to mark pairs that differ at the pair u and v alone
+one_place : (p q : ℕ → ℕ → Bool) (n u v : ℕ) → u < n → v < n → eqb u v ≡ false → p (max u v) (min u v) ≡ true → q (max u v) (min u v) ≡ false →
+    ((x y : ℕ) → same_pair u v x y ≡ false → p x y ≡ q x y) → total (λ x. count (p x) x) n ≡ total (λ x. count (q x) x) n + 1
+one_place p q n u v hu hv ne here off same =
     let differ : u ≡ v → ⊥ = eqb-false u v ne in
-    total_one (λ x. count (λ y. not (s.joined x y)) x) (λ x. count (λ y. not (s.joined x y || same_pair u v x y)) x)
-    s.size (max u v) (omega arith)
-    (count_one (λ y. not (s.joined (max u v) y)) (λ y. not (s.joined (max u v) y || same_pair u v (max u v) y))
-    (max u v) (min u v) (omega arith)
-    (rw (joined_row s u v l h))
-    (rw (joined_row s u v l h, pair_row u v ne))
-    (λ k below other. sym (ap (λ (t : Bool). not (s.joined (max u v) k || t)) (other_place u v k below other) ∙ no_more (s.joined (max u v) k))))
-    (λ x below other. count_same (λ y. not (s.joined x y)) (λ y. not (s.joined x y || same_pair u v x y)) x
-    (λ k lower. sym (ap (λ (t : Bool). not (s.joined x k || t)) (other_row u v x k lower other) ∙ no_more (s.joined x k))))
-  where
-    no_more : (b : Bool) → not (b || false) ≡ not b
-    no_more true = refl
-    no_more false = refl
+    total_one (λ x. count (p x) x) (λ x. count (q x) x) n (max u v) (omega arith)
+    (count_one (p (max u v)) (q (max u v)) (max u v) (min u v) (omega arith) here off
+    (λ k below other. same (max u v) k (other_place u v k below other)))
+    (λ x below other. count_same (p x) (q x) x (λ k lower. same x k (other_row u v x k lower other)))
 
--- one pair more is one more that is joined
-pub joined_with_pair : (s : Shape) (u v : ℕ) → u < s.size → v < s.size → eqb u v ≡ false → Lawful s → s.joined u v ≡ false →
-    joined_pairs (with_pair s u v) ≡ joined_pairs s + 1
-joined_with_pair s u v hu hv ne l h =
-    let differ : u ≡ v → ⊥ = eqb-false u v ne in
-    total_one (λ x. count (λ y. s.joined x y || same_pair u v x y) x) (λ x. count (s.joined x) x)
-    s.size (max u v) (omega arith)
-    (count_one (λ y. s.joined (max u v) y || same_pair u v (max u v) y) (s.joined (max u v))
-    (max u v) (min u v) (omega arith)
-    (rw (joined_row s u v l h, pair_row u v ne))
-    (joined_row s u v l h)
-    (λ k below other. ap (λ (t : Bool). s.joined (max u v) k || t) (other_place u v k below other) ∙ no_more (s.joined (max u v) k)))
-    (λ x below other. count_same (λ y. s.joined x y || same_pair u v x y) (s.joined x) x
-    (λ k lower. ap (λ (t : Bool). s.joined x k || t) (other_row u v x k lower other) ∙ no_more (s.joined x k)))
-  where
-    no_more : (b : Bool) → (b || false) ≡ b
-    no_more true = refl
-    no_more false = refl
+module _ (s : Shape) (u v : ℕ) (hu : u < s.size) (hv : v < s.size) (ne : eqb u v ≡ false) (l : Lawful s) (h : s.joined u v ≡ false) where
+  elsewhere : (x y : ℕ) → same_pair u v x y ≡ false → (s.joined x y || same_pair u v x y) ≡ s.joined x y
+  elsewhere x y off = ap (λ (t : Bool). s.joined x y || t) off ∙ or-false (s.joined x y)
 
-and_turned : (a b c d x y : Bool) → c ≡ d → x ≡ y → (((a && b) && not c) && x) ≡ (((b && a) && not d) && y)
-and_turned a b c d x y e f = grind (arith, nat_tests)
+  -- one pair more is one fewer that is not joined
+  pub open_with_pair : open_pairs s ≡ open_pairs (with_pair s u v) + 1
+  open_with_pair =
+      one_place (λ x y. not (s.joined x y)) (λ x y. not (s.joined x y || same_pair u v x y)) s.size u v hu hv ne
+      (rw (joined_row s u v l h)) (rw (joined_row s u v l h, pair_row u v ne)) (λ x y off. sym (ap not (elsewhere x y off)))
 
-never_itself : (a b c : Bool) → b ≡ true → ((a && not b) && c) ≡ false
-never_itself a b c e = grind (arith, nat_tests)
+  -- one pair more is one more that is joined
+  pub joined_with_pair : joined_pairs (with_pair s u v) ≡ joined_pairs s + 1
+  joined_with_pair =
+      one_place (λ x y. s.joined x y || same_pair u v x y) s.joined s.size u v hu hv ne
+      (rw (joined_row s u v l h, pair_row u v ne)) (joined_row s u v l h) elsewhere
 
 -- whatever way pairs are marked, if it does not matter which vertex comes first
 pub marked_lawful : (n : ℕ) (marked : ℕ → ℕ → Bool) → ((u v : ℕ) → marked u v ≡ marked v u) → 32 ≤ n → n ≤ 512 →
@@ -123,8 +102,8 @@ marked_lawful n marked turned least most = record {
   least = least;
   most = most;
   inside = λ v h. ltb-true v n h;
-  symmetric = λ u v. and_turned (ltb u n) (ltb v n) (eqb u v) (eqb v u) (marked u v) (marked v u) (eqb_sym u v) (turned u v);
-  apart = λ v. never_itself (ltb v n && ltb v n) (eqb v v) (marked v v) (eqb_same v);
+  symmetric = λ u v. ap₂ (λ a b. a && b) (both_turned (eqb u v) (eqb v u) (ltb u n) (ltb v n) (eqb_sym u v)) (turned u v);
+  apart = λ v. never_same (ltb v n && ltb v n) (marked v v) (eqb v v) (eqb_same v);
   standing = λ u v h.
       (and_parts (ltb u n) (ltb v n)
       (and_parts (ltb u n && ltb v n) (not (eqb u v)) (and_parts ((ltb u n && ltb v n) && not (eqb u v)) (marked u v) h).0).0).0;
@@ -156,9 +135,5 @@ total_none : (f : ℕ → ℕ) (n : ℕ) → ((k : ℕ) → f k ≡ 0) → total
 total_none f zero h = refl
 total_none f (suc n) h = let before : total f n ≡ 0 = total_none f n h in rw (before, h n)
 
-count_never : (n : ℕ) → count (λ v. false) n ≡ 0
-count_never zero = refl
-count_never (suc n) = let before : count (λ v. false) n ≡ 0 = count_never n in rw before
-
 pub joined_none : (n : ℕ) → joined_pairs (no_pairs n) ≡ 0
-joined_none n = total_none (λ u. count (λ v. false) u) n count_never
+joined_none n = total_none (λ u. count (λ v. false) u) n (λ u. count_none (λ v. false) u (λ _ _. refl))

@@ -3,7 +3,7 @@ use Rattle.std.specs.Prelude.{ℕ, ◌-◌, Bool, cond, ◌&&◌, ◌||◌, Ok, 
 use Rattle.graph.specs.Shape.{Shape, Meaning}
 use Rattle.graph.specs.Judging.{judged}
 use Rattle.graph.specs.declared.pair.Pair.{Pair}
-use Rattle.graph.specs.declared.pair.Pair.TheVariants.{Refused, Present, Fresh}
+use Rattle.graph.specs.declared.pair.Pair.TheVariants.{Present, Fresh}
 use Rattle.graph.specs.declared.refusal.Refusal.{Refusal}
 use Rattle.graph.specs.declared.refusal.Refusal.TheVariants.{Full}
 
@@ -15,14 +15,14 @@ pub data Verdict : Type 0 where
   added : Verdict
 
 -- what a shape says of u and v
-abbrev pub judge_of : Shape → ℕ → ℕ → Pair
+abbrev pub judge_of : Shape → ℕ → ℕ → Result Pair Refusal
 judge_of s u v = judged s.size u v (s.stands u && s.stands v) (s.joined u v)
 
 -- a fresh pair needs room
-abbrev pub settled : Pair → ℕ → Verdict
-settled (Refused r) free = refused r
-settled Present free = present
-settled Fresh free = cond (free == 0) (refused Full) added
+abbrev pub settled : Result Pair Refusal → ℕ → Verdict
+settled (Err r) free = refused r
+settled (Ok Present) free = present
+settled (Ok Fresh) free = cond (free == 0) (refused Full) added
 
 abbrev pub verdict : Meaning → ℕ → ℕ → Verdict
 verdict m u v = settled (judge_of m.shape u v) m.free

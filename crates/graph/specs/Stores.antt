@@ -40,6 +40,13 @@ abbrev pub renewed : Result (Unit {0}) OpeningRefusal → Meaning → Meaning �
 renewed (Ok x) fresh was = fresh
 renewed (Err e) fresh was = was
 
+-- What opening answers: a store of which `is` holds, if it was granted; else the refusal.
+abbrev pub Opened : {S : Type 0} → (S → Type 0) → Result (Unit {0}) OpeningRefusal → Result S OpeningRefusal → Type 0
+Opened is (Ok x) (Ok store) = is store
+Opened is (Ok x) (Err e) = ⊥
+Opened is (Err k) (Ok store) = ⊥
+Opened is (Err k) (Err e) = e ≡ k
+
 -- What a task answers that is run on a new store, if the opening was granted; a refusal is handed on, and the memory is as it was.
 abbrev pub Ran : {Out : Type 0} → (Meaning → Out → Type 0) → Meaning → Type 0 → Result (Unit {0}) OpeningRefusal →
     Result Out OpeningRefusal → Type 0

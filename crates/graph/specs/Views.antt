@@ -1,22 +1,23 @@
 -- Four ways to look at a shape. Each gives a shape again, so they pile up. Assumes nothing.
-use Rattle.std.specs.Prelude.{◌≡◌, ℕ, Bool, true, false, not, ◌&&◌, ◌||◌, Some, None, Option, ◌==◌}
+use Rattle.std.specs.Prelude.{◌≡◌, ℕ, Bool, true, false, not, ◌&&◌, ◌||◌, Some, None, Option, Ok, Err, Result, ◌==◌}
 use Rattle.graph.specs.Counting.{any}
 use Rattle.graph.specs.Shape.{Shape, Meaning, Lawful}
 use Rattle.graph.specs.Joining.{with_pair}
 use Rattle.graph.specs.declared.pair.Pair.{Pair}
-use Rattle.graph.specs.declared.pair.Pair.TheVariants.{Refused, Present, Fresh}
-use Rattle.graph.specs.declared.class.Class.{Class}
-use Rattle.graph.specs.declared.class.Class.TheVariants.{Zero, One}
+use Rattle.graph.specs.declared.pair.Pair.TheVariants.{Present, Fresh}
+use Rattle.graph.specs.declared.refusal.Refusal.{Refusal}
+use Rattle.classes.specs.declared.class.Class.{Class}
+use Rattle.classes.specs.declared.class.Class.TheVariants.{Zero, One}
 
 -- the meaning of a view f over a graph: free is that of the graph below
 abbrev pub over : (Shape → Shape) → Meaning → Meaning
 over f m = record { shape = f m.shape; free = m.free }
 
 -- What joining a pair in a view comes to for the graph below: only a pair that is new in the view goes down.
-abbrev pub HandedDown : Pair → Type 0 → Type 0 → Type 0
-HandedDown (Refused r) unchanged joined = unchanged
-HandedDown Present unchanged joined = unchanged
-HandedDown Fresh unchanged joined = joined
+abbrev pub HandedDown : Result Pair Refusal → Type 0 → Type 0 → Type 0
+HandedDown (Err r) unchanged joined = unchanged
+HandedDown (Ok Present) unchanged joined = unchanged
+HandedDown (Ok Fresh) unchanged joined = joined
 
 abbrev pub same_class : Class → Class → Bool
 same_class Zero Zero = true

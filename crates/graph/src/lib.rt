@@ -1,7 +1,6 @@
 #![tactic(auto)]
 
 // What a graph is, for everything that stores one, looks at one through a view, or works on one.
-pub mod class;
 pub mod opening;
 pub mod pair;
 pub mod refusal;
@@ -12,6 +11,7 @@ ghost use Rattle.std.specs.Prelude.{◌≡◌, ℕ};
 ghost use Rattle.graph.specs.Shape.{Lawful, Meaning, degree as degree_of, next as next_of};
 ghost use Rattle.graph.specs.Joining.{join_answer, join_meaning};
 
+pub use classes::class;
 use refusal::Refusal;
 
 // Six calls. Five ask and are answered on every number; join is the only one that changes anything.
@@ -38,27 +38,14 @@ pub trait Graph {
     fn degree(&self, u: usize) -> usize
         ensures { result ≡ degree_of (means self.now).shape u }
     {
-        let n = self.size();
-        let mut found = 0;
-        for v in 0..n {
-            if self.joined(u, v) {
-                found += 1;
-            }
-        }
-        found
+        (0..self.size()).filter(|v| self.joined(u, *v)).count()
     }
 
     // The lowest vertex, not below `from`, that u is joined to.
     fn next(&self, u: usize, from: usize) -> Option<usize>
         ensures { result ≡ next_of (means self.now).shape u from }
     {
-        let n = self.size();
-        for v in from..n {
-            if self.joined(u, v) {
-                return Some(v);
-            }
-        }
-        None
+        (from..self.size()).find(|v| self.joined(u, *v))
     }
 
     fn join(&mut self, u: usize, v: usize) -> Result<(), Refusal>

@@ -2,22 +2,21 @@
 ghost use Rattle.std.specs.Prelude.{◌≡◌};
 ghost use Rattle.graph.specs.Opening.{opening, opening_number};
 
-#[derive(Clone, Copy)]
+// each under the number that it is known by
+#[derive(Clone, Copy, PartialEq, Eq, Debug)]
 pub enum OpeningRefusal {
     // fewer than 32 vertices, or more than 512
-    NoSuchSize,
+    NoSuchSize = 13,
     // too little memory for that many
-    ShortMemory,
+    ShortMemory = 2,
 }
 
 impl OpeningRefusal {
+    // A method and no `From`, as for a pair that is refused.
     pub fn number(self) -> u8
         ensures { result ≡ opening_number self }
     {
-        match self {
-            OpeningRefusal::NoSuchSize => 13,
-            OpeningRefusal::ShortMemory => 2,
-        }
+        self as u8
     }
 }
 

@@ -4,9 +4,8 @@ ghost use Rattle.graph.specs.Judging.{judged};
 
 use crate::refusal::Refusal;
 
-#[derive(Clone, Copy)]
+#[derive(Clone, Copy, PartialEq, Eq, Debug)]
 pub enum Pair {
-    Refused(Refusal),
     // joined before
     Present,
     // two different standing vertices that are not joined
@@ -14,18 +13,18 @@ pub enum Pair {
 }
 
 // Checked condition by condition: both numbers in range, both standing, not the same, not joined.
-pub fn judge(size: usize, u: usize, v: usize, standing: bool, joined: bool) -> Pair
+pub fn judge(size: usize, u: usize, v: usize, standing: bool, joined: bool) -> Result<Pair, Refusal>
     ensures { result ≡ judged size u v standing joined }
 {
     if (u >= size) | (v >= size) {
-        Pair::Refused(Refusal::NoVertex)
+        Err(Refusal::NoVertex)
     } else if !standing {
-        Pair::Refused(Refusal::NotStanding)
+        Err(Refusal::NotStanding)
     } else if u == v {
-        Pair::Refused(Refusal::ToItself)
+        Err(Refusal::ToItself)
     } else if joined {
-        Pair::Present
+        Ok(Pair::Present)
     } else {
-        Pair::Fresh
+        Ok(Pair::Fresh)
     }
 }

@@ -2,10 +2,11 @@
 ghost use Rattle.std.specs.Prelude.{◌≡◌};
 ghost use Rattle.graph.specs.Refusals.{number_of};
 
-#[derive(Clone, Copy)]
+// each under the number that it is known by
+#[derive(Clone, Copy, PartialEq, Eq, Debug)]
 pub enum Refusal {
     // a number of size or more
-    NoVertex,
+    NoVertex = 13,
     // a vertex that does not stand
     NotStanding,
     // a vertex with itself
@@ -15,14 +16,10 @@ pub enum Refusal {
 }
 
 impl Refusal {
+    // A method and no `From`: the rules know a refusal by this number, which is not what it is.
     pub fn number(self) -> u8
         ensures { result ≡ number_of self }
     {
-        match self {
-            Refusal::NoVertex => 13,
-            Refusal::NotStanding => 14,
-            Refusal::ToItself => 15,
-            Refusal::Full => 16,
-        }
+        self as u8
     }
 }

@@ -44,3 +44,18 @@ pub trait Fresh: Graph {
         ensures has { has result ≡ has self }
         ensures fresh { fresh result ≡ fresh self };
 }
+
+// A store is one: a fresh graph has no pairs.
+impl<S: Store> Fresh for S {
+    ghost has = { λ g. S.Store.holds g };
+
+    ghost fresh = { λ g n. empty_store n (S.Store.room g n) };
+
+    fn check_fresh(&self, n: usize) -> Result<(), OpeningRefusal> {
+        self.check_anew(n)
+    }
+
+    fn renew(self, n: usize) -> Self {
+        self.reopen(n)
+    }
+}

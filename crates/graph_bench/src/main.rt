@@ -19,38 +19,28 @@ fn spread(i: usize, n: usize) -> (usize, usize) {
 
 // Joins about every tenth pair of the graph; answers how many calls were refused.
 fn joins<G: Graph>(graph: &mut G, n: usize) -> usize {
-    let mut refused = 0usize;
-    for i in 0..n.saturating_mul(n) / 20 {
-        let (u, v) = spread(i, n);
-        if graph.join(u, v).is_err() {
-            refused = refused.saturating_add(1);
-        }
-    }
-    refused
+    (0..n.saturating_mul(n) / 20)
+        .map(|i| spread(i, n))
+        .map(|(u, v)| graph.join(u, v))
+        .filter(|joined| joined.is_err())
+        .count()
 }
 
 fn asks<G: Graph>(graph: &G, n: usize) -> usize {
-    let mut found = 0usize;
-    for i in 0..PAIRS {
-        let (u, v) = spread(i, n);
-        if graph.joined(u, v) {
-            found = found.saturating_add(1);
-        }
-    }
-    found
+    (0..PAIRS)
+        .map(|i| spread(i, n))
+        .filter(|(u, v)| graph.joined(*u, *v))
+        .count()
 }
 
 fn degrees<G: Graph>(graph: &G, n: usize) -> usize {
-    let mut sum = 0usize;
-    for u in 0..n {
-        sum = sum.saturating_add(graph.degree(u));
-    }
-    sum
+    (0..n).fold(0, |sum: usize, u| sum.saturating_add(graph.degree(u)))
 }
 
 // Goes over all neighbours of every vertex.
 fn walks<G: Graph>(graph: &G, n: usize) -> usize {
     let mut steps = 0usize;
+    // By hand: the next question goes on behind the last answer, and a bound on the turns shows that it ends.
     for u in 0..n {
         let mut from = 0;
         for _ in 0..n {
@@ -64,19 +54,21 @@ fn walks<G: Graph>(graph: &G, n: usize) -> usize {
     steps
 }
 
+// What the work answers, and how many nanoseconds each of so many calls took.
+fn timed<F: FnOnce() -> usize>(rt: &HostRuntime, calls: usize, work: F) -> io::Result<(usize, u128)>
+    requires { F.IsAlwaysCallable work }
+{
+    let start = Instant::now(rt)?;
+    let answer = work();
+    let nanos = start.elapsed(rt)?.as_nanos() / calls.max(1) as u128;
+    Ok((answer, nanos))
+}
+
 fn time<G: Graph>(rt: &HostRuntime, name: &str, graph: &mut G, n: usize) -> io::Result<()> {
-    let start = Instant::now(rt)?;
-    let refused = joins(graph, n);
-    let joined = start.elapsed(rt)?.as_nanos() / (n.saturating_mul(n) / 20).max(1) as u128;
-    let start = Instant::now(rt)?;
-    let found = asks(graph, n);
-    let asked = start.elapsed(rt)?.as_nanos() / PAIRS as u128;
-    let start = Instant::now(rt)?;
-    let sum = degrees(graph, n);
-    let counted = start.elapsed(rt)?.as_nanos() / n.max(1) as u128;
-    let start = Instant::now(rt)?;
-    let steps = walks(graph, n);
-    let walked = start.elapsed(rt)?.as_nanos() / n.max(1) as u128;
+    let (refused, joined) = timed(rt, n.saturating_mul(n) / 20, || joins(graph, n))?;
+    let (found, asked) = timed(rt, PAIRS, || asks(graph, n))?;
+    let (sum, counted) = timed(rt, n, || degrees(graph, n))?;
+    let (steps, walked) = timed(rt, n, || walks(graph, n))?;
     println!(rt;
         "{name} n {n}: join {joined} ns, joined {asked} ns, degree {counted} ns, all neighbours of a vertex {walked} ns (check {refused} {found} {sum} {steps})"
     )
@@ -84,16 +76,14 @@ fn time<G: Graph>(rt: &HostRuntime, name: &str, graph: &mut G, n: usize) -> io::
 
 fn both(rt: &HostRuntime, n: usize) -> io::Result<()> {
     let mut bytes = [0u8; 16352];
-    let Ok(()) = BitMatrix::check(n, &bytes) else {
+    let Ok(mut matrix) = BitMatrix::try_open(n, &mut bytes) else {
         return Ok(());
     };
-    let mut matrix = BitMatrix::open(n, &mut bytes);
     time(rt, "matrix", &mut matrix, n)?;
     let mut words = [0u32; 65536];
-    let Ok(()) = EdgeTable::check(n, &words) else {
+    let Ok(mut table) = EdgeTable::try_open(n, &mut words) else {
         return Ok(());
     };
-    let mut table = EdgeTable::open(n, &mut words);
     time(rt, "table", &mut table, n)
 }
 

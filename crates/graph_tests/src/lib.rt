@@ -19,44 +19,32 @@ const PAIRS: [(usize, usize); 8] = [
 
 // Whether u and v stand in the list, in either order.
 fn listed(u: usize, v: usize) -> bool {
-    for pair in &PAIRS {
-        if ((pair.0 == u) & (pair.1 == v)) | ((pair.0 == v) & (pair.1 == u)) {
-            return true;
-        }
-    }
-    false
+    PAIRS.contains(&(u, v)) | PAIRS.contains(&(v, u))
 }
 
 // Joins the list and counts what was refused.
 fn fill<G: Graph>(graph: &mut G) -> usize {
-    let mut refused: usize = 0;
-    for pair in &PAIRS {
-        if graph.join(pair.0, pair.1).is_err() {
-            refused = refused.saturating_add(1);
-        }
-    }
-    refused
+    PAIRS
+        .iter()
+        .map(|(u, v)| graph.join(*u, *v))
+        .filter(|joined| joined.is_err())
+        .count()
 }
 
-// How many of the questions on numbers below `most` are answered otherwise than the list says.
+// How many of the questions on u and numbers below `most` are answered otherwise than the list says.
+fn differences_at<G: Graph>(graph: &G, u: usize, most: usize) -> usize {
+    let degree = (0..most).filter(|v| graph.joined(u, *v)).count();
+    (0..most)
+        .filter(|v| graph.joined(u, *v) != listed(u, *v))
+        .count()
+        .saturating_add(usize::from(graph.degree(u) != degree))
+}
+
+// The same of all numbers below `most`.
 fn differences<G: Graph>(graph: &G, most: usize) -> usize {
-    let mut wrong: usize = 0;
-    for u in 0..most {
-        let mut degree: usize = 0;
-        for v in 0..most {
-            let joined = graph.joined(u, v);
-            if joined != listed(u, v) {
-                wrong = wrong.saturating_add(1);
-            }
-            if joined {
-                degree = degree.saturating_add(1);
-            }
-        }
-        if graph.degree(u) != degree {
-            wrong = wrong.saturating_add(1);
-        }
-    }
-    wrong
+    (0..most).fold(0, |wrong, u| {
+        wrong.saturating_add(differences_at(graph, u, most))
+    })
 }
 
 // What a pile over a filled graph says of u and v: whether they are joined, and the degree of u.

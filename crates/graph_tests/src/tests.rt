@@ -5,16 +5,14 @@ use graph::class::Class;
 use graph::store::Store;
 use matrix::bit_matrix::BitMatrix;
 use piles::looks::Looks;
+use std::array;
 use std::test::Fail;
 use views::merge_table::MergeTable;
 
 #[test]
 fn matrix_agrees_with_a_list(rt: HostRuntime) -> Result<(), Fail> {
     let mut memory = [255u8; 100];
-    let Ok(()) = BitMatrix::check(40, &memory) else {
-        return Err(Fail::new("no room"));
-    };
-    let mut matrix = BitMatrix::open(40, &mut memory);
+    let mut matrix = BitMatrix::try_open(40, &mut memory).map_err(|_| Fail::new("no room"))?;
     assert_eq!(rt; fill(&mut matrix), 0);
     assert_eq!(rt; differences(&matrix, 42), 0);
     assert_eq!(rt; matrix.next(39, 6), Some(38));
@@ -30,10 +28,7 @@ fn matrix_agrees_with_a_list(rt: HostRuntime) -> Result<(), Fail> {
 #[test]
 fn table_agrees_with_a_list(rt: HostRuntime) -> Result<(), Fail> {
     let mut memory = [9u32; 16];
-    let Ok(()) = EdgeTable::check(40, &memory) else {
-        return Err(Fail::new("no room"));
-    };
-    let mut table = EdgeTable::open(40, &mut memory);
+    let mut table = EdgeTable::try_open(40, &mut memory).map_err(|_| Fail::new("no room"))?;
     assert_eq!(rt; fill(&mut table), 0);
     assert_eq!(rt; differences(&table, 42), 0);
     assert_eq!(rt; table.next(39, 6), Some(38));
@@ -48,11 +43,8 @@ fn table_agrees_with_a_list(rt: HostRuntime) -> Result<(), Fail> {
 #[test]
 fn memory_behind_stays(rt: HostRuntime) -> Result<(), Fail> {
     let mut memory = [255u8; 100];
-    let Ok(()) = BitMatrix::check(40, &memory) else {
-        return Err(Fail::new("no room"));
-    };
     {
-        let mut matrix = BitMatrix::open(40, &mut memory);
+        let mut matrix = BitMatrix::try_open(40, &mut memory).map_err(|_| Fail::new("no room"))?;
         assert!(rt; matrix.join(39, 38).is_ok());
     }
     assert_eq!(rt; memory[97], 8);
@@ -63,31 +55,19 @@ fn memory_behind_stays(rt: HostRuntime) -> Result<(), Fail> {
 
 // Numbers from 32 on and 0 to 7 are of one class, 0 to 2 are fixed, 34 is in the group of 33, 38 is taken away.
 fn looks() -> Looks {
-    let mut classes = [None; 512];
-    let mut fixed = [false; 512];
-    let mut gone = [false; 512];
-    for v in 0..512 {
-        if (v < 8) | (v >= 32) {
-            classes[v] = Some(Class::Zero);
-        }
-        fixed[v] = v < 3;
-        gone[v] = v == 38;
-    }
     Looks {
-        classes,
+        classes: array::from_fn(|v| ((v < 8) | (v >= 32)).then_some(Class::Zero)),
         chosen: Class::Zero,
-        fixed,
+        fixed: array::from_fn(|v| v < 3),
         table: MergeTable::new().merge(33, 34),
-        gone,
+        gone: array::from_fn(|v| v == 38),
     }
 }
 
 fn asked(u: usize, v: usize) -> Result<(bool, usize), Fail> {
     let mut memory = [255u8; 100];
-    let Ok(()) = BitMatrix::check(40, &memory) else {
-        return Err(Fail::new("no room"));
-    };
-    Ok(piled_answers(BitMatrix::open(40, &mut memory), looks(), u, v))
+    let matrix = BitMatrix::try_open(40, &mut memory).map_err(|_| Fail::new("no room"))?;
+    Ok(piled_answers(matrix, looks(), u, v))
 }
 
 #[test]

@@ -1,5 +1,5 @@
 -- Joining pairs one list after the other. Assumes nothing.
-use Rattle.std.proofs.Common.{◌≡◌, ℕ, zero, suc, ◌+◌, ◌-◌, ◌≤◌, Bool, true, false, not, ◌&&◌, eqb, ltb, List, [], ◌∷◌, ◌++◌, map, Some, None, Ok, Err, Result, sym, refl, ap, ◌∙◌, ap₂, append_assoc, add-zero, add-suc, add-one, arith}
+use Rattle.std.proofs.Common.{◌≡◌, ℕ, zero, suc, ◌+◌, ◌-◌, ◌<◌, ◌≤◌, Bool, true, not, ◌&&◌, eqb, ltb, List, [], ◌∷◌, ◌++◌, map, Some, None, Ok, Err, Result, sym, refl, ap, ◌∙◌, ap₂, append_assoc, add-zero, add-suc, add-one, arith}
 use Rattle.std.specs.List.{slice_get}
 use Rattle.std.proofs.lemmas.Bool.{eq-eqb}
 use Rattle.std.proofs.lemmas.Bool.Decides.{nat_tests}
@@ -33,34 +33,22 @@ filled_more m (e ∷ es) ys =
     after_one (join_answer m e.one e.other) next (filled next es) (filled next (es ++ ys)) ys (filled_more next es ys)
 
 -- where the first list is joined, the second begins with what it left
-pub filled_then : (m : Meaning) (xs ys : List Edge) → (filled m xs).answer ≡ Ok tt → filled m (xs ++ ys) ≡ filled (filled m xs).left ys
+filled_then : (m : Meaning) (xs ys : List Edge) → (filled m xs).answer ≡ Ok tt → filled m (xs ++ ys) ≡ filled (filled m xs).left ys
 filled_then m xs ys ok = filled_more m xs ys ∙ ap (λ (a : Result (Unit {0}) Refusal). go_on a (filled m xs) (filled (filled m xs).left ys)) ok
 
 -- where one of the first list is refused, that is the end
 pub filled_stops : (m : Meaning) (xs ys : List Edge) (e : Refusal) → (filled m xs).answer ≡ Err e → filled m (xs ++ ys) ≡ filled m xs
 filled_stops m xs ys e stop = filled_more m xs ys ∙ ap (λ (a : Result (Unit {0}) Refusal). go_on a (filled m xs) (filled (filled m xs).left ys)) stop
 
-one_answer : (a : Result (Unit {0}) Refusal) (next : Meaning) → a ≡ (then_filled a next (record { answer = Ok tt; left = next })).answer
+pub one_answer : (a : Result (Unit {0}) Refusal) (next : Meaning) → a ≡ (then_filled a next (record { answer = Ok tt; left = next })).answer
 one_answer (Ok x) next = refl
 one_answer (Err e) next = refl
 
-one_left : (a : Result (Unit {0}) Refusal) (next : Meaning) → next ≡ (then_filled a next (record { answer = Ok tt; left = next })).left
+pub one_left : (a : Result (Unit {0}) Refusal) (next : Meaning) → next ≡ (then_filled a next (record { answer = Ok tt; left = next })).left
 one_left (Ok x) next = refl
 one_left (Err e) next = refl
 
--- u and v are joined
-module _ (m : Meaning) (u v : ℕ) (passes : Bool) (yes : true ≡ passes) where
-  pub join_answered : (a : Result (Unit {0}) Refusal) → a ≡ join_answer m u v → a ≡ (filled m (map (edge u) (cond_one passes v))).answer
-  join_answered a e = e ∙ (one_answer (join_answer m u v) (join_meaning m u v) ∙ ap (λ (b : Bool). (filled m (map (edge u) (cond_one b v))).answer) yes)
-
-  pub join_left : (n : Meaning) → n ≡ join_meaning m u v → n ≡ (filled m (map (edge u) (cond_one passes v))).left
-  join_left n e = e ∙ (one_left (join_answer m u v) (join_meaning m u v) ∙ ap (λ (b : Bool). (filled m (map (edge u) (cond_one b v))).left) yes)
-
--- nothing is joined
-pub none_joined : (m : Meaning) (u v : ℕ) (passes : Bool) → false ≡ passes → record { answer = Ok tt; left = m } ≡ filled m (map (edge u) (cond_one passes v))
-none_joined m u v passes e = ap (λ (b : Bool). filled m (map (edge u) (cond_one b v))) e
-
-map_append : {A B : Type 0} (f : A → B) (xs ys : List A) → map f (xs ++ ys) ≡ map f xs ++ map f ys
+pub map_append : {A B : Type 0} (f : A → B) (xs ys : List A) → map f (xs ++ ys) ≡ map f xs ++ map f ys
 map_append f [] ys = refl
 map_append f (x ∷ xs) ys = ap (λ zs. f x ∷ zs) (map_append f xs ys)
 
@@ -87,6 +75,10 @@ pub record SoFar (m now : Meaning) (xs : List Edge) : Type 0 where
   pub fine : (filled m xs).answer ≡ Ok tt
   pub left : now ≡ (filled m xs).left
 
+-- another list is joined after those so far
+pub and_then : (m now : Meaning) (xs ys both : List Edge) → both ≡ xs ++ ys → SoFar m now xs → filled m both ≡ filled now ys
+and_then m now xs ys both e so_far = ap (filled m) e ∙ (filled_then m xs ys so_far.fine ∙ ap (λ n. filled n ys) (sym so_far.left))
+
 module _ (grown : ℕ → List Edge) (more : ℕ → List Edge) (grows : (k : ℕ) → grown (suc k) ≡ grown k ++ more k) (m : Meaning) where
   abbrev one_on : (k : ℕ) → grown (k + 1) ≡ grown k ++ more k
   one_on k = ap grown (add-one k) ∙ grows k
@@ -95,16 +87,14 @@ module _ (grown : ℕ → List Edge) (more : ℕ → List Edge) (grows : (k : �
   pub goes_on : (k : ℕ) (now next : Meaning) → SoFar m now (grown k) → (filled now (more k)).answer ≡ Ok tt → next ≡ (filled now (more k)).left →
       SoFar m next (grown (k + 1))
   goes_on k now next so_far ok left =
-      let both : filled m (grown (k + 1)) ≡ filled now (more k) =
-      ap (filled m) (one_on k) ∙ (filled_then m (grown k) (more k) so_far.fine ∙ ap (λ n. filled n (more k)) (sym so_far.left)) in
+      let both : filled m (grown (k + 1)) ≡ filled now (more k) = and_then m now (grown k) (more k) (grown (k + 1)) (one_on k) so_far in
       record { fine = ap (λ f. f.answer) both ∙ ok; left = left ∙ sym (ap (λ f. f.left) both) }
 
   -- a pair of the next list is refused: so is it in the whole
   pub stops : (k n : ℕ) (now : Meaning) (e : Refusal) → k + 1 ≤ n → SoFar m now (grown k) → (filled now (more k)).answer ≡ Err e →
       filled m (grown n) ≡ filled now (more k)
   stops k n now e l so_far err =
-      let both : filled m (grown (k + 1)) ≡ filled now (more k) =
-      ap (filled m) (one_on k) ∙ (filled_then m (grown k) (more k) so_far.fine ∙ ap (λ n. filled n (more k)) (sym so_far.left)) in
+      let both : filled m (grown (k + 1)) ≡ filled now (more k) = and_then m now (grown k) (more k) (grown (k + 1)) (one_on k) so_far in
       let rest = grown_to grown more grows (k + 1) n l in
       ap (filled m) rest.1 ∙ (filled_stops m (grown (k + 1)) rest.0 e (ap (λ f. f.answer) both ∙ err) ∙ both)
 
@@ -129,9 +119,9 @@ pub sets_none : (rows : List Fields) (n i : ℕ) (f : Fields) → slice_get rows
 unfolding row_edges
 sets_none rows n i f e d = ap (λ o. edges_from rows n i (destination_at o)) e ∙ ap (edges_from rows n i) d
 
-passing_same : (p q : ℕ → Bool) (n : ℕ) → ((v : ℕ) → p v ≡ q v) → passing p n ≡ passing q n
+pub passing_same : (p q : ℕ → Bool) (n : ℕ) → ((v : ℕ) → v < n → p v ≡ q v) → passing p n ≡ passing q n
 passing_same p q zero e = refl
-passing_same p q (suc n) e = ap₂ (λ xs b. xs ++ cond_one b n) (passing_same p q n e) (e n)
+passing_same p q (suc n) e = ap₂ (λ xs b. xs ++ cond_one b n) (passing_same p q n (λ v l. e v (omega arith))) (e n (omega arith))
 
 near_joins : (f : Fields) (to v : ℕ) (live : Bool) →
     (((live && not (is_move f && names f.first v)) && not (ltb to 32 && ltb v 32)) && not (eqb v to)) ≡
@@ -154,5 +144,5 @@ module _ (rows : List Fields) (n i : ℕ) (f : Fields) (to : ℕ) (row : slice_g
       map (edge to) (passing others n) ≡ row_edges rows n i
   unfolding row_edges
   row_joins others live near-ones is =
-      ap (map (edge to)) (passing_same others (joins_at rows i to) n (λ v. near-ones v ∙ near_is live is v)) ∙
+      ap (map (edge to)) (passing_same others (joins_at rows i to) n (λ v l. near-ones v ∙ near_is live is v)) ∙
       sym (ap (λ o. edges_from rows n i (destination_at o)) row ∙ ap (edges_from rows n i) set)

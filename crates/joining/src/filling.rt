@@ -3,7 +3,7 @@ ghost use Rattle.std.specs.Prelude.{◌≡◌, ℕ, map};
 ghost use Rattle.code.specs.Codes.{rows_of};
 ghost use Rattle.numbers.specs.Sets.{has};
 ghost use Rattle.liveness.specs.Found.{after_of};
-ghost use Rattle.allocation.specs.Interference.{edge, cond_one, passing, row_edges, edges_of, live_after, filled};
+ghost use Rattle.allocation.specs.Interference.{edge, passing, row_edges, edges_of, live_after, filled};
 ghost use Rattle.joining.specs.Chains.{JoinedOn};
 
 use crate::neighbours::neighbours;
@@ -13,26 +13,16 @@ use graph::refusal::Refusal;
 use liveness::Liveness;
 use numbers::NumberSet;
 
-// Joins u to one number, if that is among the others.
-fn join_if<G: Graph>(graph: &mut G, u: usize, v: usize, others: &NumberSet) -> Result<(), Refusal>
-    ensures answer { result ≡ (filled (G.means graph.old) (map (edge u) (cond_one (has others.now v) v))).answer }
-    ensures after { G.means graph.new ≡ (filled (G.means graph.old) (map (edge u) (cond_one (has others.now v) v))).left }
-    ensures left { JoinedOn G.leaves graph.old graph.new }
-{
-    if others.contains(v) {
-        return graph.join(u, v);
-    }
-    Ok(())
-}
-
 // Joins u to all the others below n, rising.
 fn join_all<G: Graph>(graph: &mut G, u: usize, others: &NumberSet, n: usize) -> Result<(), Refusal>
     ensures answer { result ≡ (filled (G.means graph.old) (map (edge u) (passing (has others.now) n))).answer }
     ensures after { G.means graph.new ≡ (filled (G.means graph.old) (map (edge u) (passing (has others.now) n))).left }
     ensures left { JoinedOn G.leaves graph.old graph.new }
 {
-    for v in 0..n {
-        join_if(graph, u, v, others)?;
+    let within = others.intersection(&NumberSet::below(n));
+    // Not try_for_each: its closure would change the graph that it captured, and a proof learns nothing of that.
+    for v in within.iter() {
+        graph.join(u, v)?;
     }
     Ok(())
 }
@@ -49,14 +39,15 @@ fn fill_row<G: Graph>(
     ensures after { G.means graph.new ≡ (filled (G.means graph.old) (row_edges (rows_of code.now) code.now.numbers place)).left }
     ensures left { JoinedOn G.leaves graph.old graph.new }
 {
+    // No `?`: what has no row or sets nothing is granted.
     let Some(row) = code.row(place) else {
         return Ok(());
     };
     match row.destination() {
         Some(to) => join_all(
             graph,
-            to as usize,
-            &neighbours(row, to, live.after(place)),
+            usize::from(to),
+            &neighbours(row, to, live, place),
             code.numbers(),
         ),
         None => Ok(()),
@@ -70,6 +61,7 @@ pub fn fill<G: Graph>(graph: &mut G, code: &Code) -> Result<(), Refusal>
     ensures left { JoinedOn G.leaves graph.old graph.new }
 {
     let live = Liveness::of(code);
+    // Not try_for_each, as in join_all.
     for place in 0..code.len() {
         fill_row(graph, code, &live, place)?;
     }

@@ -1,9 +1,10 @@
+pub mod Chains
+pub mod Closing
 pub mod Told
 pub mod Facts
 pub mod Verdicts
 pub mod After
-pub mod Moving
-pub mod Rows
+pub mod Noting
 pub mod Deciding
 pub mod Uniting
 pub mod Opening

@@ -7,7 +7,8 @@ use Rattle.session_laws.specs.State.{State}
 use Rattle.session_laws.specs.Invariants.{Distinct, SoundState}
 use Rattle.standing.specs.declared.standing.Standing.{Standing}
 use Rattle.kept.specs.Sound.{SoundKept}
-use Rattle.kept.specs.declared.moves.Move.{Move as Row}
+use Rattle.kept.specs.declared.noted.Noted.{Noted}
+use Rattle.kept.specs.declared.removed.Removed.{Removed}
 
 told_distinct : {X : Type 0} (vs : List ℕ) → ∥ X ∥₁ → (X → Distinct vs) → Distinct vs
 told_distinct [] t f = tt
@@ -30,13 +31,9 @@ told_state b s t f = record {
   few_moves = told_most _ _ t (λ x. (f x).few_moves);
 }
 
-pub told_kept : (standing : Standing) (removed : List ℕ) (top : ℕ) (moves : List Row) (noted : ℕ) (temporaries : NumberSet) →
-    ∥ SoundKept standing removed top moves noted temporaries ∥₁ → SoundKept standing removed top moves noted temporaries
-told_kept standing removed top moves noted temporaries t = record {
-  whole_removed = told_number _ _ t (λ x. x.whole_removed);
-  whole_moves = told_number _ _ t (λ x. x.whole_moves);
-  top_inside = told_most _ _ t (λ x. x.top_inside);
-  noted_inside = told_most _ _ t (λ x. x.noted_inside);
+pub told_kept : (standing : Standing) (removed : Removed) (moves : Noted) (temporaries : NumberSet) →
+    ∥ SoundKept standing removed moves temporaries ∥₁ → SoundKept standing removed moves temporaries
+told_kept standing removed moves temporaries t = record {
   left = λ v. told_test _ _ t (λ x. x.left v);
   state = told_state _ _ t (λ x. x.state);
 }

@@ -1,18 +1,17 @@
 -- What the tests in the code make of the outcomes. Assumes nothing.
-use Rattle.std.proofs.Common.{◌≡◌, ℕ, ◌<◌, ◌≤◌, Bool, true, false, cond, not, ◌&&◌, ◌||◌, ltb, leb, length, sym, refl, ap, ◌∙◌, ap₂, arith}
-use Rattle.std.proofs.lemmas.Bool.{lt-ltb, le-ltb, cond-true, cond-false}
-use Rattle.std.proofs.lemmas.Bool.Decides.{nat_tests}
+use Rattle.std.proofs.Common.{◌≡◌, ℕ, ◌<◌, ◌≤◌, Bool, true, false, cond, not, ◌&&◌, ltb, length, sym, refl, ap, ◌∙◌, arith}
+use Rattle.std.proofs.lemmas.Bool.{lt-ltb, le-ltb}
 use Rattle.graph.specs.Counting.{any}
 use Rattle.graph.specs.Shape.{Shape, degree}
-use Rattle.session_laws.specs.Base.{Base, fixed}
-use Rattle.session_laws.specs.State.{State, standing_graph, is_loose}
+use Rattle.session_laws.specs.Base.{fixed}
+use Rattle.session_laws.specs.State.{standing_graph, is_loose}
 use Rattle.session_laws.specs.Calls.{Call, Outcome, refused, noted}
 use Rattle.session_laws.specs.Outcomes.{outcome, at_vertex, note_outcome, low_degree, some_loose}
-use Rattle.session_laws.specs.Runs.{called, left_by}
+use Rattle.session_laws.specs.Runs.{left_by}
 use Rattle.standing.specs.Standing.{graph_of, fixed_in, light_at, light_loose}
-use Rattle.kept.specs.Kept.{base_of, state_of}
+use Rattle.kept.specs.Kept.{base_of, state_of, ByRules}
 use Rattle.kept.specs.declared.kept.Kept.{Kept}
-use Rattle.kept.proofs.Facts.{graph_is, noted_long}
+use Rattle.kept.proofs.Facts.{graph_is}
 
 pub size_is : (k : Kept) → (graph_of k.standing).size ≡ (base_of k).graph.size
 size_is k = ap (λ (g : Shape). g.size) (graph_is k)
@@ -70,50 +69,54 @@ vertex_there k v o l h =
     let f : (standing_graph (base_of k) (state_of k)).stands v ≡ true = sym (stands_is k v) ∙ h in
     cond_there _ _ o (refused 14) (refused 13) e f
 
+-- what the condition of a call makes of its outcome
+pub by_verdict : (k : Kept) (v : ℕ) (c : Call) (o said : Outcome) (granted condition : Bool) →
+    outcome (base_of k) (state_of k) c ≡ at_vertex (base_of k) (state_of k) v (cond condition o (refused 17)) → granted ≡ condition →
+    said ≡ at_vertex (base_of k) (state_of k) v (cond granted o (refused 17)) → said ≡ outcome (base_of k) (state_of k) c
+by_verdict k v c o said granted condition rule is e = e ∙ (ap (λ x. at_vertex (base_of k) (state_of k) v (cond x o (refused 17))) is ∙ sym rule)
+
 -- ---- note
 
-outside : (n u v : ℕ) → (leb n u || leb n v) ≡ true → (ltb u n && ltb v n) ≡ false
-outside n u v h = grind (arith, nat_tests)
+module _ (k : Kept) (u v n : ℕ) (size : n ≡ (graph_of k.standing).size) where
+  high : (w : ℕ) → n ≤ w → ltb w (base_of k).graph.size ≡ false
+  high w h = let e : n ≡ (base_of k).graph.size = size ∙ size_is k in le-ltb w _ (omega arith)
 
-within : (n u v : ℕ) → (leb n u || leb n v) ≡ false → (ltb u n && ltb v n) ≡ true
-within n u v h = grind (arith, nat_tests)
+  low : (w : ℕ) → w < n → ltb w (base_of k).graph.size ≡ true
+  low w h = let e : n ≡ (base_of k).graph.size = size ∙ size_is k in lt-ltb w _ (omega arith)
 
-module _ (k : Kept) (u v n : ℕ) where
-  pub note_none : n ≡ (graph_of k.standing).size → (leb n u || leb n v) ≡ true → note_outcome (base_of k) (state_of k) u v ≡ refused 13
-  note_none en h =
-      let e : n ≡ (base_of k).graph.size = en ∙ size_is k in
-      let out : (ltb u (base_of k).graph.size && ltb v (base_of k).graph.size) ≡ false =
-      ap (λ (m : ℕ). ltb u m && ltb v m) (sym e) ∙ outside n u v h in
-      rw out
+  first_high : (x y : Bool) (p q : Outcome) → x ≡ false → cond (x && y) p q ≡ q
+  first_high x y p q e = rw e
 
-  module _ (su sv : Bool) (en : n ≡ (graph_of k.standing).size) (eu : su ≡ (graph_of k.standing).stands u) (ev : sv ≡ (graph_of k.standing).stands v)
-      (h : (leb n u || leb n v) ≡ false) where
-    in_range : (ltb u (base_of k).graph.size && ltb v (base_of k).graph.size) ≡ true
-    in_range = ap (λ (m : ℕ). ltb u m && ltb v m) (sym (en ∙ size_is k)) ∙ within n u v h
+  second_high : (x y : Bool) (p q : Outcome) → x ≡ true → y ≡ false → cond (x && y) p q ≡ q
+  second_high x y p q e f = rw (e, f)
 
-    both_stand : ((standing_graph (base_of k) (state_of k)).stands u && (standing_graph (base_of k) (state_of k)).stands v) ≡ (su && sv)
-    both_stand = ap₂ (λ x y. x && y) (sym (eu ∙ stands_is k u)) (sym (ev ∙ stands_is k v))
+  both_low : (x y : Bool) (p q : Outcome) → x ≡ true → y ≡ true → cond (x && y) p q ≡ p
+  both_low x y p q e f = rw (e, f)
 
-    pub note_gone : (su && sv) ≡ false → note_outcome (base_of k) (state_of k) u v ≡ refused 14
-    note_gone f = cond_gone _ _ _ (refused 14) (refused 13) in_range (both_stand ∙ f)
+  pub note_first : n ≤ u → note_outcome (base_of k) (state_of k) u v ≡ refused 13
+  note_first h = first_high _ _ _ (refused 13) (high u h)
 
-    pub note_full : (su && sv) ≡ true → 128 ≤ k.noted → note_outcome (base_of k) (state_of k) u v ≡ refused 16
-    note_full f many =
-        let m : length (state_of k).moves ≡ k.noted = noted_long k in
-        let e : ltb (length (state_of k).moves) 128 ≡ false = le-ltb _ 128 (omega arith) in
-        cond_there _ _ _ (refused 14) (refused 13) in_range (both_stand ∙ f) ∙ cond-false _ _ _ e
+  pub note_second : u < n → n ≤ v → note_outcome (base_of k) (state_of k) u v ≡ refused 13
+  note_second l h = second_high _ _ _ (refused 13) (low u l) (high v h)
 
-    pub note_granted : (su && sv) ≡ true → k.noted < 128 → note_outcome (base_of k) (state_of k) u v ≡ noted k.noted u v
-    note_granted f few =
-        let m : length (state_of k).moves ≡ k.noted = noted_long k in
-        let e : ltb (length (state_of k).moves) 128 ≡ true = lt-ltb _ 128 (omega arith) in
-        cond_there _ _ _ (refused 14) (refused 13) in_range (both_stand ∙ f) ∙ (cond-true _ _ _ e ∙ ap (λ (i : ℕ). noted i u v) m)
+  module _ (lu : u < n) (lv : v < n) where
+    pub note_first_gone : (graph_of k.standing).stands u ≡ false → note_outcome (base_of k) (state_of k) u v ≡ refused 14
+    note_first_gone e = both_low _ _ _ (refused 13) (low u lu) (low v lv) ∙ first_high _ _ _ (refused 14) (sym (stands_is k u) ∙ e)
+
+    module _ (su : (graph_of k.standing).stands u ≡ true) where
+      pub note_second_gone : (graph_of k.standing).stands v ≡ false → note_outcome (base_of k) (state_of k) u v ≡ refused 14
+      note_second_gone e = both_low _ _ _ (refused 13) (low u lu) (low v lv) ∙ second_high _ _ _ (refused 14) (sym (stands_is k u) ∙ su) (sym (stands_is k v) ∙ e)
+
+      module _ (sv : (graph_of k.standing).stands v ≡ true) where
+        pub note_both : note_outcome (base_of k) (state_of k) u v ≡ cond (ltb (length (state_of k).moves) 128) (noted (length (state_of k).moves) u v) (refused 16)
+        note_both = both_low _ _ _ (refused 13) (low u lu) (low v lv) ∙ both_low _ _ _ (refused 14) (sym (stands_is k u) ∙ su) (sym (stands_is k v) ∙ sv)
 
 -- ---- what is left
 
-pub refused_leaves : (b : Base) (s : State) (c : Call) (n : ℕ) → refused n ≡ outcome b s c → s ≡ called b s c
+pub refused_rules : (k : Kept) (c : Call) (n : ℕ) → refused n ≡ outcome (base_of k) (state_of k) c → ByRules k k c (refused n)
 unfolding left_by
-refused_leaves b s c n e = ap (left_by s) e
+refused_rules k c n e = record { answer = e; base = refl; state = ap (left_by (state_of k)) e }
 
-pub granted_leaves : (b : Base) (s : State) (c : Call) (o : Outcome) → o ≡ outcome b s c → left_by s o ≡ called b s c
-granted_leaves b s c o e = ap (left_by s) e
+pub granted_rules : (k after : Kept) (c : Call) (o : Outcome) → o ≡ outcome (base_of k) (state_of k) c →
+    base_of after ≡ base_of k → state_of after ≡ left_by (state_of k) o → ByRules k after c o
+granted_rules k after c o e base state = record { answer = e; base = base; state = state ∙ ap (left_by (state_of k)) e }

@@ -1,4 +1,5 @@
 pub mod Moves
+pub mod Removed
 pub mod Sound
 pub mod Kept
 pub mod Answers

@@ -4,7 +4,9 @@
 mod kept;
 mod marks;
 mod moves;
+mod noted;
 mod refusal;
+mod removed;
 
 pub use kept::Kept;
 pub use moves::{Merge, Move};

@@ -1,5 +1,5 @@
 -- Members of the sets in a row of sets, by place.
-use Rattle.std.proofs.Common.{◌≡◌, ℕ, zero, suc, ◌<◌, ◌≤◌, true, false, not, ◌≢◌, List, [], ◌∷◌, length, get_or, set, refl, ap, inl, inr, arith}
+use Rattle.std.proofs.Common.{◌≡◌, ℕ, zero, suc, ◌<◌, ◌≤◌, true, false, not, ◌≢◌, List, [], ◌∷◌, length, get_or, set, refl, ap, ◌∙◌, inl, inr, arith, get_or-set_same, length-set}
 use Rattle.std.proofs.lemmas.Option.{slice_get-get_or, slice_get_past}
 use Rattle.std.proofs.lemmas.Bool.{not-true, not_from_true, not_from_false, cases_Bool, both_ways}
 use Rattle.numbers.specs.Sets.{has}
@@ -25,10 +25,8 @@ in_set_large (s ∷ family) zero v large = has_large s v large
 in_set_large (s ∷ family) (suc i) v large = in_set_large family i v large
 
 pub in_set_same : (family : List NumberSet) (i v : ℕ) (s : NumberSet) → i < length family → in_set (set family i s) i v ≡ has s v
-unfolding in_set
-in_set_same [] i v s inside = absurd (omega arith)
-in_set_same (t ∷ family) zero v s inside = refl
-in_set_same (t ∷ family) (suc i) v s inside = in_set_same family i v s (omega arith)
+in_set_same family i v s inside =
+    in_set_at (set family i s) i v s (omega (arith, length-set family i s)) ∙ ap (λ t. has t v) (get_or-set_same family i s s inside)
 
 pub in_set_other : (family : List NumberSet) (i k v : ℕ) (s : NumberSet) → k ≢ i → in_set (set family i s) k v ≡ in_set family k v
 unfolding in_set

@@ -36,10 +36,6 @@ module _ (rows : List Fields) (i : ℕ) (past : slice_get rows i ≡ None) where
   unfolding reads
   reads_past v = rw past
 
-  pub sets_past : (v : ℕ) → sets rows i v ≡ false
-  unfolding sets
-  sets_past v = rw past
-
   pub follows_past : (j : ℕ) → follows rows i j ≡ false
   unfolding follows
   follows_past j = rw past
@@ -65,7 +61,7 @@ third_part : (a b c d : Bool) → (a && (b && (c && d))) ≡ true → c ≡ true
 third_part a b c d h = second_part b c d (and_parts a (b && (c && d)) h).1
 
 -- the sources of a row are numbers that a set can hold
-module _ (numbers reach : ℕ) (row : Row) (narrow : numbers ≤ 512) (fits : row_fits numbers reach row ≡ true) where
+module _ (numbers reach : ℕ) (row : Row (List ℕ)) (narrow : numbers ≤ 512) (fits : row_fits numbers reach row ≡ true) where
   pub first_fits : below 512 (fields row).first ≡ true
   unfolding row_fits
   first_fits =

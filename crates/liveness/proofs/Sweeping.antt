@@ -1,5 +1,5 @@
 -- One step of a sweep: what it adds is live, and where it adds nothing the sets are closed.
-use Rattle.std.proofs.Common.{◌≡◌, ℕ, ◌+◌, ◌<◌, Bool, true, false, cond, not, ◌&&◌, ◌||◌, eqb, List, length, set, Some, None, Option, sym, refl, ◌∙◌, inl, inr}
+use Rattle.std.proofs.Common.{◌≡◌, ℕ, ◌+◌, ◌<◌, Bool, true, false, cond, not, ◌&&◌, ◌||◌, eqb, List, length, get_or, set, Some, None, Option, sym, refl, ◌∙◌, inl, inr}
 use Rattle.std.specs.List.{slice_get}
 use Rattle.std.proofs.lemmas.Bool.{cases_eq, false≢true, or_cases, or_left, or_right, and_parts, and_from, not-true, not_from_false, eq-eqb, eqb-true}
 use Rattle.code.specs.Rows.{Fields}
@@ -9,7 +9,7 @@ use Rattle.liveness.specs.Families.{in_set, target_passes, row_ahead, ahead, ask
 use Rattle.liveness.specs.Flow.{passes, names, goes_on, row_followed, reads, sets, follows}
 use Rattle.liveness.specs.Live.{LiveBefore}
 use Rattle.liveness.specs.Live.LiveBefore.{read_here, read_later}
-use Rattle.liveness.proofs.Members.{in_set_same, in_set_other, lacking_less}
+use Rattle.liveness.proofs.Members.{in_set_at, in_set_same, in_set_other, lacking_less}
 
 target_found : (test : ℕ → Bool) (o : Option ℕ) → target_passes o test ≡ true → (j : ℕ) × (names o j ≡ true) × (test j ≡ true)
 target_found test None e = absurd (false≢true e)
@@ -100,21 +100,23 @@ module _ (rows : List Fields) (family : List NumberSet) (i : ℕ) where
       ]
 
 -- one row's set as it was read, with what is asked for there, and the two taken together
-module _ (rows : List Fields) (family : List NumberSet) (i : ℕ) (old fresh all : NumberSet)
-    (at : (v : ℕ) → has old v ≡ in_set family i v) (new : (v : ℕ) → has fresh v ≡ asked rows family i v)
-    (both : (v : ℕ) → has all v ≡ (has old v || has fresh v)) where
+module _ (rows : List Fields) (family : List NumberSet) (i : ℕ) (d fresh all : NumberSet) (inside : i < length family)
+    (new : (v : ℕ) → has fresh v ≡ asked rows family i v) (both : (v : ℕ) → has all v ≡ (has (get_or family i d) v || has fresh v)) where
+  at : (v : ℕ) → has (get_or family i d) v ≡ in_set family i v
+  at v = sym (in_set_at family i v d inside)
+
   -- where the two together are no more than the one, the sets are closed there
-  pub closed_still : ((v : ℕ) → has all v ≡ has old v) → Closed rows family i
+  pub closed_still : ((v : ℕ) → has all v ≡ has (get_or family i d) v) → Closed rows family i
   closed_still same =
       closed_when rows family i (λ v e.
-      sym (at v) ∙ (sym (same v) ∙ (both v ∙ or_right (has old v) (has fresh v) (new v ∙ e))))
+      sym (at v) ∙ (sym (same v) ∙ (both v ∙ or_right (has (get_or family i d) v) (has fresh v) (new v ∙ e))))
 
-  pub sound_taken : i < length family → Sound rows family → Sound rows (set family i all)
-  sound_taken inside sound =
+  pub sound_taken : Sound rows family → Sound rows (set family i all)
+  sound_taken sound =
       sound_more rows family i all inside sound (λ v. let a = at v in let n = new v in let b = both v in cc)
 
-  pub lacking_taken : i < length family → ((k : ℕ) × (has old k ≡ false) × (has all k ≡ true)) → lacking (set family i all) < lacking family
-  lacking_taken inside more =
+  pub lacking_taken : ((k : ℕ) × (has (get_or family i d) k ≡ false) × (has all k ≡ true)) → lacking (set family i all) < lacking family
+  lacking_taken more =
       lacking_less family i all more.0 inside
-      (λ k e. both k ∙ or_left (has old k) (has fresh k) (at k ∙ e))
+      (λ k e. both k ∙ or_left (has (get_or family i d) k) (has fresh k) (at k ∙ e))
       (sym (at more.0) ∙ more.1) more.2

@@ -5,48 +5,30 @@ ghost use Rattle.code.specs.Fits.{below};
 ghost use Rattle.code.specs.Rows.{fields};
 ghost use Rattle.numbers.specs.Sets.{has};
 ghost use Rattle.liveness.specs.Families.{in_set, target_passes, row_ahead, ahead, asked};
-ghost use Rattle.liveness.specs.Flow.{names, goes_on, row_reads, row_sets};
+ghost use Rattle.liveness.specs.Flow.{names, row_reads, row_sets};
 
 use code::{Code, Row};
 use numbers::NumberSet;
-
-// The kinds of the rows that do not go on to the next row.
-const JUMP: u8 = 4;
-
-const END: u8 = 7;
-
-pub(crate) fn goes_on(row: Row) -> bool
-    ensures { result ≡ goes_on (fields row) }
-{
-    let kind = row.kind();
-    (kind != JUMP) & (kind != END)
-}
 
 // The set for a row, which is empty past the last row.
 pub(crate) fn set_at(family: &[NumberSet], place: usize) -> NumberSet
     ensures { (v : ℕ) → has result v ≡ in_set family.now place v }
 {
-    if place >= family.len() {
-        return NumberSet::new();
-    }
-    family[place]
+    family.get(place).copied().unwrap_or_default()
 }
 
 // The set for the row that a field names.
 fn set_at_target(family: &[NumberSet], target: Option<u16>) -> NumberSet
     ensures { (v : ℕ) → has result v ≡ target_passes target (λ j. in_set family.now j v) }
 {
-    match target {
-        Some(place) => set_at(family, place as usize),
-        None => NumberSet::new(),
-    }
+    target.map_or_else(NumberSet::new, |place| set_at(family, usize::from(place)))
 }
 
 fn without(mut set: NumberSet, number: Option<u16>) -> NumberSet
     ensures { (v : ℕ) → has result v ≡ (has set v && not (names number v)) }
 {
     if let Some(n) = number {
-        set.remove(n as usize);
+        set.remove(usize::from(n));
     }
     set
 }
@@ -56,7 +38,7 @@ fn with(mut set: NumberSet, number: Option<u16>) -> NumberSet
     ensures { (v : ℕ) → has result v ≡ (names number v || has set v) }
 {
     if let Some(n) = number {
-        let _ = set.insert(n as usize);
+        let _ = set.insert(usize::from(n));
     }
     set
 }
@@ -67,10 +49,10 @@ fn after_row(row: Row, place: usize, before: &[NumberSet]) -> NumberSet
     ensures { (v : ℕ) → has result v ≡ row_ahead (fields row) place (λ j. in_set before.now j v) }
 {
     let live = set_at_target(before, row.target());
-    if goes_on(row) {
-        return live.union(&set_at(before, place + 1));
+    if row.goes_nowhere() {
+        return live;
     }
-    live
+    live.union(&set_at(before, place + 1))
 }
 
 // What is live before a row, from what is live after it. The row reads before it sets.
@@ -88,6 +70,7 @@ pub(crate) fn set_after(code: &Code, before: &[NumberSet], place: usize) -> Numb
     requires { place < 512 }
     ensures { (v : ℕ) → has result v ≡ ahead (rows_of code.now) place (λ j. in_set before.now j v) }
 {
+    // A match: a closure would have to require what its arm knows of the row.
     match code.row(place) {
         Some(row) => after_row(row, place, before),
         None => NumberSet::new(),

@@ -3,6 +3,7 @@
 // Which numbers are live where in a piece of code, by paths.
 mod flow;
 mod liveness;
+mod renew;
 mod sweep;
 mod way;
 

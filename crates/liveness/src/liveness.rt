@@ -5,6 +5,7 @@ use numbers::NumberSet;
 mod ask;
 mod find;
 
+// Two arrays, since sweeps go over `before` alone.
 // For each row of a piece of code, the numbers live before it and those live after it. It is 64 KiB large, so it is lent and not copied.
 #[derive(Drop)]
 pub struct Liveness {

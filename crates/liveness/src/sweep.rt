@@ -1,52 +1,56 @@
-// Backward sweeps over the sets of all rows, until nothing changes.
-ghost use Rattle.std.specs.Prelude.{◌≡◌, ℕ, ◌<◌, true, false, length};
-ghost use Rattle.code.specs.Codes.{rows_of};
-ghost use Rattle.liveness.specs.Families.{Sound, Closed, lacking};
+// Backward sweeps over a table with one fact for each row, until nothing changes.
+ghost use Rattle.std.specs.Prelude.{◌≡◌, ℕ, ◌<◌, ◌≤◌, true, false, List};
 
-use crate::flow::set_before;
-use code::Code;
-use numbers::NumberSet;
+// What the rows of code ask of the facts that stand for them.
+pub(crate) trait Rule {
+    type Fact;
 
-// Adds to the set of one row what is asked for there; whether that was something new.
-fn renew(code: &Code, before: &mut [NumberSet], place: usize) -> bool
-    requires within { place < 512 }
-    requires whole { length before.old ≡ 512 }
-    requires sound { Sound (rows_of code.now) before.old }
-    ensures sound { Sound (rows_of code.now) before.new }
-    ensures still { result ≡ false → before.new ≡ before.old }
-    ensures closed { result ≡ false → Closed (rows_of code.now) before.old place }
-    ensures grew { result ≡ true → lacking before.new < lacking before.old }
-{
-    let fresh = set_before(code, before, place);
-    let mut set = before[place];
-    if !set.absorb(&fresh) {
-        return false;
-    }
-    before[place] = set;
-    true
+    ghost rows: { Self → ℕ };
+
+    // What holds of every table that a sweep begins with or comes to.
+    ghost sound: { Self → List Self.Fact → Type 0 };
+
+    // That the row at a place asks for nothing more.
+    ghost settled: { Self → List Self.Fact → ℕ → Type 0 };
+
+    // How much may still change.
+    ghost left: { Self → List Self.Fact → ℕ };
+
+    // How many rows there are.
+    fn rows(&self) -> usize
+        ensures value { result ≡ rows self.now }
+        ensures few { result ≤ 512 };
+
+    // Gives the row at a place what it asks for; whether that was something new.
+    fn improve(&self, facts: &mut [Self::Fact; 512], place: usize) -> bool
+        requires within { place < 512 }
+        requires sound { sound self.now facts.old }
+        ensures sound { sound self.now facts.new }
+        ensures still { result ≡ false → facts.new ≡ facts.old }
+        ensures settled { result ≡ false → settled self.now facts.old place }
+        ensures less { result ≡ true → left self.now facts.new < left self.now facts.old };
 }
 
-// One sweep from the last row to the first; whether it added anything.
-fn sweep(code: &Code, before: &mut [NumberSet]) -> bool
-    requires whole { length before.old ≡ 512 }
-    requires sound { Sound (rows_of code.now) before.old }
-    ensures sound { Sound (rows_of code.now) before.new }
-    ensures closed { result ≡ false → (i : ℕ) → i < length (rows_of code.now) → Closed (rows_of code.now) before.new i }
-    ensures grew { result ≡ true → lacking before.new < lacking before.old }
+// One sweep from the last row to the first; whether it changed anything.
+fn sweep<R: Rule>(rule: &R, facts: &mut [R::Fact; 512]) -> bool
+    requires { R.sound rule.now facts.old }
+    ensures sound { R.sound rule.now facts.new }
+    ensures settled { result ≡ false → (i : ℕ) → i < R.rows rule.now → R.settled rule.now facts.new i }
+    ensures less { result ≡ true → R.left rule.now facts.new < R.left rule.now facts.old }
 {
-    let mut grew = false;
-    for place in (0..code.len()).rev() {
-        grew = renew(code, before, place) | grew;
+    let mut changed = false;
+    // By number: a turn writes the table that the next ones read.
+    for place in (0..rule.rows()).rev() {
+        changed = rule.improve(facts, place) | changed;
     }
-    grew
+    changed
 }
 
-// Sweeps until one adds nothing.
-pub(crate) fn settle(code: &Code, before: &mut [NumberSet])
-    requires whole { length before.old ≡ 512 }
-    requires sound { Sound (rows_of code.now) before.old }
-    ensures sound { Sound (rows_of code.now) before.new }
-    ensures closed { (i : ℕ) → i < length (rows_of code.now) → Closed (rows_of code.now) before.new i }
+// Sweeps until one changes nothing.
+pub(crate) fn settle<R: Rule>(rule: &R, facts: &mut [R::Fact; 512])
+    requires { R.sound rule.now facts.old }
+    ensures sound { R.sound rule.now facts.new }
+    ensures settled { (i : ℕ) → i < R.rows rule.now → R.settled rule.now facts.new i }
 {
-    while sweep(code, before) {}
+    while sweep(rule, facts) {}
 }

@@ -29,7 +29,8 @@ fn row_at(place: u16) -> Row {
 
 // Code of so many rows, of which the last is the end.
 fn nested(rows: u16) -> Option<Code> {
-    let mut code = Code::new(512, rows as usize)?;
+    let mut code = Code::new(512, usize::from(rows))?;
+    // The number of a row is what its contents are made from.
     for place in 1..rows {
         let _ = code.push(row_at(place - 1));
     }
@@ -38,6 +39,7 @@ fn nested(rows: u16) -> Option<Code> {
 }
 
 fn time(rt: &HostRuntime, rows: u16) -> io::Result<()> {
+    // No `?`: a size that is not to be had is passed over.
     let Some(code) = nested(rows) else {
         return Ok(());
     };

@@ -14,22 +14,19 @@ pub struct Unfit;
 // Code of these rows.
 pub fn build(rows: &[Row]) -> Result<Code, Unfit> {
     let mut code = Code::new(512, rows.len()).ok_or(Unfit)?;
-    let mut taken = true;
     for row in rows {
-        taken = code.push(*row) & taken;
+        code.push(*row).map_err(|_| Unfit)?;
     }
-    if taken { Ok(code) } else { Err(Unfit) }
+    Ok(code)
 }
 
 // Whether exactly these numbers are live before these rows, each pair a row and a number.
 pub fn is_live(found: &Liveness, expected: &[(usize, usize)]) -> bool {
-    let mut there = true;
-    for pair in expected {
-        there = found.before(pair.0).contains(pair.1) & there;
-    }
-    let mut total = 0usize;
-    for place in 0..512 {
-        total = total.wrapping_add(found.before(place).len());
-    }
-    there & (total == expected.len())
+    let there = expected
+        .iter()
+        .all(|pair| found.before(pair.0).contains(pair.1));
+    let total = (0..512).fold(0usize, |total, place| {
+        total.wrapping_add(found.before(place).len())
+    });
+    there && total == expected.len()
 }

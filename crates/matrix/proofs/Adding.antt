@@ -2,7 +2,7 @@
 use Rattle.std.proofs.Common.{◌≡◌, ℕ, ◌-◌, ◌*◌, ◌/◌, ◌%◌, ◌^◌, ◌<◌, ◌≤◌, Bool, true, false, not, ◌&&◌, ◌||◌, eqb, ltb, leb, List, length, get_or, set, Ok, sym, refl, ap, ◌∙◌, arith, drop-set-lt}
 use lib.Bits.{bit_or}
 use Rattle.std.proofs.lemmas.Nat.{one_shl}
-use Rattle.std.proofs.lemmas.Bool.{eqb-false, ne_eqb, leb-false, or_parts}
+use Rattle.std.proofs.lemmas.Bool.{eqb-false, ne_eqb}
 use Rattle.std.proofs.lemmas.Bool.Decides.{nat_tests}
 use Rattle.graph.specs.Shape.{Shape}
 use Rattle.graph.specs.Judging.{judged}
@@ -10,7 +10,7 @@ use Rattle.graph.specs.Joining.{same_pair, with_pair, judge_of, join_answer, joi
 use Rattle.graph.specs.Stores.{open_pairs}
 use Rattle.graph.specs.declared.pair.Pair.TheVariants.{Fresh}
 use Rattle.graph.proofs.Joining.{fresh_pair, seen_fresh, added_answer, added_meaning}
-use Rattle.graph.proofs.Pairs.{same_shape}
+use Rattle.graph.proofs.Pairs.{same_shape, two_inside}
 use Rattle.graph.proofs.Stores.{open_with_pair}
 use Rattle.matrix.specs.Layout.{cell, bit_at, bytes_for}
 use Rattle.matrix.specs.Lawful.{matrix_lawful}
@@ -48,19 +48,19 @@ matrix_added n bytes u v hu hv ne inside = same_shape n (λ w. ltb w n) (λ a b.
     ∙ added_bit (two n a b) (bit_at bytes (cell a b)) (same_pair u v a b) (pair_two n u v a b hu hv ne))
 
 -- a pair that is not joined has room, and setting its bit is what join means
-pub matrix_room : (n : ℕ) (bytes : List ℕ) (u v : ℕ) → 32 ≤ n → n ≤ 512 → judge_of (matrix_shape n bytes) u v ≡ Fresh →
+pub matrix_room : (n : ℕ) (bytes : List ℕ) (u v : ℕ) → 32 ≤ n → n ≤ 512 → judge_of (matrix_shape n bytes) u v ≡ Ok Fresh →
     eqb (matrix_meaning n bytes).free 0 ≡ false
 matrix_room n bytes u v least most e =
     let k = fresh_pair (matrix_shape n bytes) u v e in
     let less = open_with_pair (matrix_shape n bytes) u v k.u_inside k.v_inside k.differ (matrix_lawful n bytes least most) k.unjoined in
     ne_eqb (open_pairs (matrix_shape n bytes)) 0 (λ z. omega arith)
 
-pub matrix_answer : (n : ℕ) (bytes : List ℕ) (u v : ℕ) → 32 ≤ n → n ≤ 512 → judge_of (matrix_shape n bytes) u v ≡ Fresh →
+pub matrix_answer : (n : ℕ) (bytes : List ℕ) (u v : ℕ) → 32 ≤ n → n ≤ 512 → judge_of (matrix_shape n bytes) u v ≡ Ok Fresh →
     Ok tt ≡ join_answer (matrix_meaning n bytes) u v
 matrix_answer n bytes u v least most e =
     sym (added_answer (matrix_meaning n bytes) u v e (matrix_room n bytes u v least most e))
 
-pub matrix_after : (n : ℕ) (bytes : List ℕ) (u v : ℕ) → 32 ≤ n → n ≤ 512 → judge_of (matrix_shape n bytes) u v ≡ Fresh →
+pub matrix_after : (n : ℕ) (bytes : List ℕ) (u v : ℕ) → 32 ≤ n → n ≤ 512 → judge_of (matrix_shape n bytes) u v ≡ Ok Fresh →
     cell u v / 8 < length bytes → matrix_meaning n (with_bit bytes (cell u v)) ≡ join_meaning (matrix_meaning n bytes) u v
 matrix_after n bytes u v least most e inside =
     let s : Shape = matrix_shape n bytes in
@@ -79,7 +79,7 @@ written_bit bytes p i e =
     ap (λ (x : ℕ). set bytes (p / 8) (bit_or (get_or bytes (p / 8) 0) x)) one ∙ ap (with_bit bytes) e
 
 -- a fresh pair's byte is one that the vertices need
-pub fresh_byte : (n : ℕ) (bytes : List ℕ) (u v : ℕ) → judge_of (matrix_shape n bytes) u v ≡ Fresh → cell u v / 8 < bytes_for n
+pub fresh_byte : (n : ℕ) (bytes : List ℕ) (u v : ℕ) → judge_of (matrix_shape n bytes) u v ≡ Ok Fresh → cell u v / 8 < bytes_for n
 fresh_byte n bytes u v e =
     let k = fresh_pair (matrix_shape n bytes) u v e in
     place_byte n (cell u v) (cell_inside u v n k.u_inside k.v_inside (eqb-false u v k.differ))
@@ -90,19 +90,13 @@ behind_bit n bytes i h = drop-set-lt (bytes_for n) bytes (i / 8) (bit_or (get_or
 
 -- the matrix's own answers tell that a pair is fresh
 pub matrix_fresh : (n : ℕ) (bytes : List ℕ) (u v : ℕ) (j : Bool) → j ≡ (matrix_shape n bytes).joined u v →
-    Fresh ≡ judged n u v (ltb u n && ltb v n) j → judge_of (matrix_shape n bytes) u v ≡ Fresh
+    Ok Fresh ≡ judged n u v (ltb u n && ltb v n) j → judge_of (matrix_shape n bytes) u v ≡ Ok Fresh
 matrix_fresh n bytes u v j hj e =
     seen_fresh (matrix_shape n bytes) u v n (ltb u n) (ltb v n) j refl refl refl hj e
 
-pub matrix_byte : (n : ℕ) (bytes : List ℕ) (u v p : ℕ) → judge_of (matrix_shape n bytes) u v ≡ Fresh → p ≡ cell u v →
+pub matrix_byte : (n : ℕ) (bytes : List ℕ) (u v p : ℕ) → judge_of (matrix_shape n bytes) u v ≡ Ok Fresh → p ≡ cell u v →
     bytes_for n ≤ length bytes → p / 8 < length bytes
 matrix_byte n bytes u v p e i h = let inside = fresh_byte n bytes u v e in omega arith
-
-two_inside : (n u v : ℕ) → ((leb n u || leb n v) || eqb u v) ≡ false → (u < n) × (v < n) × (u ≡ v → ⊥)
-two_inside n u v h =
-    let p = or_parts (leb n u || leb n v) (eqb u v) h in
-    let q = or_parts (leb n u) (leb n v) p.0 in
-    (leb-false n u q.0, leb-false n v q.1, eqb-false u v p.1)
 
 -- the byte of any two different vertices
 pub pair_byte : (n : ℕ) (bytes : List ℕ) (u v p : ℕ) → ((leb n u || leb n v) || eqb u v) ≡ false → p ≡ cell u v →

@@ -1,7 +1,8 @@
 -- The bits of a byte and of a row of bytes. Assumes nothing.
-use Rattle.std.proofs.Common.{◌≡◌, ℕ, zero, suc, ◌*◌, ◌/◌, ◌%◌, ◌^◌, ◌<◌, Bool, true, false, ◌||◌, eqb, ◌≢◌, List, length, get_or, set, sym, refl, ap, ◌∙◌, inl, inr, pow-suc, one-add, arith, get_or-set_other, get_or-set_same, shr-shr}
+use Rattle.std.proofs.Common.{◌≡◌, ℕ, zero, suc, ◌*◌, ◌/◌, ◌%◌, ◌^◌, ◌<◌, Bool, false, ◌||◌, eqb, ◌≢◌, List, length, get_or, set, sym, refl, ap, ◌∙◌, inl, inr, pow-suc, one-add, arith, get_or-set_other, get_or-set_same, shr-shr}
 use lib.Bits.{bit_and, bit_or, and_mask, or_shr, or_mod}
 use lib.Dec.{eqb-zero-suc, eqb-suc-zero, eqb-suc-suc}
+use Rattle.std.proofs.Math.Bool.{or-false}
 use Rattle.std.proofs.lemmas.Bool.{cases_eq, eq-eqb, ne_eqb}
 use Rattle.matrix.specs.Layout.{bit, bit_at}
 
@@ -66,9 +67,5 @@ bit_set bytes i j h = elim (cases_eq (j / 8) (i / 8)) [
       let apart : j / 8 ≢ i / 8 = other in
       let never : eqb j i ≡ false = ne_eqb j i (λ e. other (ap (λ (x : ℕ). x / 8) e)) in
       rw (get_or-set_other bytes (i / 8) (j / 8) (bit_or (get_or bytes (i / 8) 0) (2 ^ (i % 8))) 0 apart, never)
-      (sym (no_more (bit (get_or bytes (j / 8) 0) (j % 8))))
+      (sym (or-false (bit (get_or bytes (j / 8) 0) (j % 8))))
 ]
-  where
-    no_more : (b : Bool) → (b || false) ≡ b
-    no_more true = refl
-    no_more false = refl

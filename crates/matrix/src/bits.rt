@@ -1,9 +1,9 @@
 // Single bits of a row of bytes, and where they lie.
 ghost use Rattle.std.specs.Prelude.{◌≡◌, ◌+◌, ◌/◌, ◌<◌, ◌≤◌, ◌&&◌, leb, length, if◌then◌else◌, Ok, Err, nat_le};
 ghost use Rattle.graph.specs.declared.opening.OpeningRefusal.TheVariants.{NoSuchSize};
-ghost use Rattle.matrix.specs.Layout.{triangle, cell, bit_at, bytes_for, cleared};
+ghost use Rattle.matrix.specs.Layout.{triangle, cell, bit_at, bytes_for};
 
-use graph::opening::OpeningRefusal;
+use graph::opening::{OpeningRefusal, check_opening};
 
 // Where row u begins: the number of pairs among the vertices below u.
 pub(crate) fn row_start(u: usize) -> usize
@@ -40,16 +40,6 @@ pub(crate) fn whole_bytes(n: usize) -> usize
 pub fn bytes_needed(n: usize) -> Result<usize, OpeningRefusal>
     ensures { result ≡ (if leb 32 n && nat_le n 512 then Ok (bytes_for n) else Err NoSuchSize) }
 {
-    if (n < 32) | (n > 512) {
-        return Err(OpeningRefusal::NoSuchSize);
-    }
+    check_opening(n, true)?;
     Ok(whole_bytes(n))
-}
-
-// Sets the first `count` bytes to zero and leaves the others.
-pub(crate) fn clear(bits: &mut [u8], count: usize)
-    requires { count ≤ length bits.old }
-    ensures { bits.new ≡ cleared count bits.old }
-{
-    bits[0..count].fill(0);
 }

@@ -2,6 +2,7 @@
 ghost use Rattle.std.specs.Prelude.{◌≡◌, [], ◌∷◌};
 ghost use Rattle.matrix.specs.Cases.{answers};
 
+// Numbers, since one list holds the answers of several calls.
 pub fn worked_cases() -> [u16; 8]
     ensures { result ≡ answers }
 {

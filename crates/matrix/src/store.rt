@@ -1,13 +1,13 @@
 // Opening a matrix, and the calls that it answers as a graph.
 ghost use Rattle.std.specs.Prelude.{◌≡◌, length, Ok};
 ghost use Rattle.graph.specs.Joining.{join_meaning};
-ghost use Rattle.graph.specs.Stores.{empty_store};
+ghost use Rattle.graph.specs.Stores.{empty_store, Opened};
 ghost use Rattle.matrix.specs.Layout.{bytes_for, cleared, triangle};
-ghost use Rattle.matrix.specs.Matrix.{matrix_meaning, matrix_opening, behind};
+ghost use Rattle.matrix.specs.Matrix.{matrix_meaning, matrix_opening, behind, NewMatrix};
 ghost use Rattle.matrix.specs.Lawful.{matrix_lawful};
 
 use crate::bit_matrix::BitMatrix;
-use crate::bits::{bytes_needed, cell_of, clear, has_bit, row_start, whole_bytes};
+use crate::bits::{bytes_needed, cell_of, has_bit, row_start, whole_bytes};
 use crate::rows::{first_above, first_between, ones_above, ones_between};
 use graph::Graph;
 use graph::opening::{OpeningRefusal, check_opening};
@@ -31,8 +31,17 @@ impl<'a> BitMatrix<'a> {
         ensures same { result.bits.ghost_name ≡ memory.entry.ghost_name }
         ensures empty { matrix_meaning result.n result.bits.now ≡ empty_store n (triangle n) }
     {
-        clear(memory, whole_bytes(n));
+        memory[..whole_bytes(n)].fill(0);
         BitMatrix { n, bits: memory }
+    }
+
+    // The same where the check grants it, so that the caller owes nothing. Each store has its own two lines: a trait with a lifetime
+    // may not give its functions a body yet. No clause on lent memory is admitted here, so that of a refusal is `check`'s to promise.
+    pub fn try_open(n: usize, memory: &'a mut [u8]) -> Result<BitMatrix<'a>, OpeningRefusal>
+        ensures { Opened (λ store. NewMatrix n memory.old memory.entry.ghost_name store.n store.bits.now store.bits.ghost_name) (matrix_opening n (length memory.old)) result }
+    {
+        BitMatrix::check(n, memory)?;
+        Ok(BitMatrix::open(n, memory))
     }
 }
 
@@ -83,8 +92,7 @@ impl Graph for BitMatrix<'_> {
 
     fn join(&mut self, u: usize, v: usize) -> Result<(), Refusal> {
         let n = self.n;
-        match judge(n, u, v, (u < n) & (v < n), self.joined(u, v)) {
-            Pair::Refused(refusal) => Err(refusal),
+        match judge(n, u, v, (u < n) & (v < n), self.joined(u, v))? {
             Pair::Present => Ok(()),
             Pair::Fresh => {
                 let place = cell_of(u, v);

@@ -1,6 +1,8 @@
 -- The laws of `count`, `any` and `first`.
-use Rattle.std.proofs.Common.{◌≡◌, ℕ, zero, suc, ◌+◌, ◌<◌, ◌≤◌, Bool, true, false, cond, not, ◌&&◌, ◌||◌, eqb, Some, None, sym, refl, ap, ◌∙◌, subst, inl, inr, add-zero, add-suc, add-one, arith}
-use Rattle.std.proofs.lemmas.Bool.{and_parts, both_ways, cases_Bool, cases_eq, eqb-false, ne_eqb, not-true}
+use Rattle.std.proofs.Common.{◌≡◌, ℕ, zero, suc, ◌+◌, ◌<◌, ◌≤◌, Bool, true, false, cond, Decides, not, ◌&&◌, eqb, Some, None, sym, refl, ap, ◌∙◌, subst, inl, inr, add-zero, add-suc, arith}
+use Rattle.std.proofs.Math.Bool.{and-true, or_comm}
+use Rattle.std.proofs.lemmas.Bool.{and_parts, both_ways, cases_Bool, cases_eq, eqb-false, false_from_ne_true, ne_eqb, not-true}
+use Rattle.std.proofs.lemmas.Bool.Decides.{Decides-below_or}
 use Rattle.numbers.specs.Counting.{count, any, first}
 
 -- ---- count
@@ -8,13 +10,6 @@ use Rattle.numbers.specs.Counting.{count, any, first}
 pub count_zero : (p : ℕ → Bool) → count p 0 ≡ 0
 unfolding count
 count_zero p = refl
-
-pub count_suc : (p : ℕ → Bool) (n : ℕ) → count p (suc n) ≡ count p n + cond (p n) 1 0
-unfolding count
-count_suc p n = refl
-
-pub count_add_one : (p : ℕ → Bool) (n : ℕ) → count p (n + 1) ≡ count p n + cond (p n) 1 0
-count_add_one p n = rw add-one (count_suc p n)
 
 -- only the numbers below n matter
 pub count_same : (p q : ℕ → Bool) (n : ℕ) → ((k : ℕ) → k < n → p k ≡ q k) → count p n ≡ count q n
@@ -81,15 +76,6 @@ count_none p (suc n) h =
     let here : p n ≡ false = h n (omega arith) in
     rw here (omega arith)
 
-pub count_some : (p : ℕ → Bool) (n k : ℕ) → k < n → p k ≡ true → 0 < count p n
-unfolding count
-count_some p zero k l e = omega arith
-count_some p (suc n) k l e =
-    elim (cases_eq k n) [
-      | inl s ↦ let here : p n ≡ true = cc in rw here (omega arith)
-      | inr d ↦ let before : 0 < count p n = count_some p n k (omega arith) e in omega arith
-    ]
-
 -- taking one number out lowers a count by one at most
 pub count_without : (p : ℕ → Bool) (m n : ℕ) → count p n ≤ count (λ k. p k && not (eqb k m)) n + 1
 unfolding count
@@ -99,17 +85,13 @@ count_without p m (suc n) =
       | inl s ↦
           let same : count p n ≡ count (λ k. p k && not (eqb k m)) n =
           count_same p (λ k. p k && not (eqb k m)) n (λ k l.
-          let other : eqb k m ≡ false = ne_eqb k m (λ e. omega arith) in rw other (sym (and_true (p k)))) in
+          let other : eqb k m ≡ false = ne_eqb k m (λ e. omega arith) in rw other (sym (and-true (p k)))) in
           elim (cases_Bool (p n)) [ inl e ↦ rw e (omega arith) | inr e ↦ rw e (omega arith) ]
       | inr d ↦
           let before : count p n ≤ count (λ k. p k && not (eqb k m)) n + 1 = count_without p m n in
           let other : eqb n m ≡ false = ne_eqb n m d in
-          rw (other, and_true (p n)) (omega arith)
+          rw (other, and-true (p n)) (omega arith)
     ]
-  where
-    and_true : (b : Bool) → (b && true) ≡ b
-    and_true true = refl
-    and_true false = refl
 
 -- Where each r below m that passes q is f of some w below n that passes p, no more pass q than p.
 pub count_image : (p q : ℕ → Bool) (f : ℕ → ℕ) (n m : ℕ)
@@ -142,49 +124,19 @@ count_image p q f (suc n) m h =
 
 -- ---- any
 
-pub any_from : (p : ℕ → Bool) (n k : ℕ) → k < n → p k ≡ true → any p n ≡ true
+-- `any` is true exactly when some number below n passes
+any_decides : (p : ℕ → Bool) (n : ℕ) → Decides (any p n) ((k : ℕ) × (k < n) × (p k ≡ true))
 unfolding any
-any_from p zero k l e = absurd (omega arith)
-any_from p (suc n) k l e =
-    elim (cases_eq k n) [
-      | inl s ↦ let here : p n ≡ true = cc in rw here (or_true (any p n))
-      | inr d ↦ let before : any p n ≡ true = any_from p n k (omega arith) e in rw before
-    ]
-  where
-    or_true : (b : Bool) → (b || true) ≡ true
-    or_true true = refl
-    or_true false = refl
+any_decides p n = Decides-below_or p (λ k. p k ≡ true) (any p) (λ k. (λ e. e, λ e. e)) refl (λ m. or_comm (any p m) (p m)) n
+
+pub any_from : (p : ℕ → Bool) (n k : ℕ) → k < n → p k ≡ true → any p n ≡ true
+any_from p n k l e = (any_decides p n).1 (k, l, e)
 
 pub any_found : (p : ℕ → Bool) (n : ℕ) → any p n ≡ true → (k : ℕ) × (k < n) × (p k ≡ true)
-unfolding any
-any_found p zero e = let z : ◌≡◌ {A = ℕ} 0 1 = cc in absurd (omega arith)
-any_found p (suc n) e =
-    elim (cases_Bool (any p n)) [
-      | inl a ↦ let t = any_found p n a in (t.0, omega arith, t.2)
-      | inr a ↦ (n, omega arith, rw a at e)
-    ]
-
-pub any_none : (p : ℕ → Bool) (n : ℕ) → ((k : ℕ) → k < n → p k ≡ false) → any p n ≡ false
-unfolding any
-any_none p zero h = refl
-any_none p (suc n) h =
-    let before : any p n ≡ false = any_none p n (λ k l. h k (omega arith)) in
-    rw before (h n (omega arith))
+any_found p n e = (any_decides p n).0 e
 
 pub any_false : (p : ℕ → Bool) (n k : ℕ) → any p n ≡ false → k < n → p k ≡ false
-any_false p n k e l =
-    elim (cases_Bool (p k)) [
-      | inl t ↦ let yes : any p n ≡ true = any_from p n k l t in let z : ◌≡◌ {A = ℕ} 0 1 = cc in absurd (omega arith)
-      | inr f ↦ f
-    ]
-
-pub any_same : (p q : ℕ → Bool) (n : ℕ) → ((k : ℕ) → k < n → p k ≡ q k) → any p n ≡ any q n
-unfolding any
-any_same p q zero h = refl
-any_same p q (suc n) h =
-    let before : any p n ≡ any q n = any_same p q n (λ k l. h k (omega arith)) in
-    let here : p n ≡ q n = h n (omega arith) in
-    cc
+any_false p n k e l = false_from_ne_true (p k) (λ t. both_ways (any p n) e (any_from p n k l t))
 
 -- ---- first
 

@@ -1,6 +1,6 @@
 pub mod Counting
 pub mod Going
+pub mod Picking
 pub mod Rows
-pub mod Ruling
 pub mod Sets
 pub mod Words

@@ -1,10 +1,8 @@
--- What every set keeps to: its members are below 512, and a larger set has more of them.
+-- What every set keeps to: its members are below 512.
 use Rattle.std.proofs.Common.{◌≡◌, ℕ, ◌<◌, ◌≤◌, true, false, not, ◌&&◌, eqb, inl, inr, arith}
 use Rattle.std.proofs.lemmas.Bool.{both_ways, cases_Bool, cases_lt, ne_eqb}
-use Rattle.numbers.specs.Counting.{count}
 use Rattle.numbers.specs.Sets.{has}
 use Rattle.numbers.specs.declared.number_set.NumberSet.{NumberSet}
-use Rattle.numbers.proofs.Counting.{count_grows, count_mono}
 use Rattle.numbers.proofs.Rows.{member_large}
 
 pub has_large : (s : NumberSet) (k : ℕ) → 512 ≤ k → has s k ≡ false
@@ -25,13 +23,3 @@ has_apart s n k h =
           rw (t, other)
       | inr f ↦ rw f
     ]
-
--- ---- how many members a set has
-
-pub len_mono : (s t : NumberSet) → ((k : ℕ) → has s k ≡ true → has t k ≡ true) → count (has s) 512 ≤ count (has t) 512
-len_mono s t h = count_mono (has s) (has t) 512 (λ k l. h k)
-
--- a set with all members of another, and one more
-pub len_grows : (s t : NumberSet) (m : ℕ) → ((k : ℕ) → has s k ≡ true → has t k ≡ true)
-    → has s m ≡ false → has t m ≡ true → count (has s) 512 < count (has t) 512
-len_grows s t m h e f = count_grows (has s) (has t) 512 m (λ k l. h k) (has_below t m f) e f

@@ -1,9 +1,11 @@
 -- The laws of a word's digits.
-use Rattle.std.proofs.Common.{◌≡◌, ℕ, zero, suc, ◌+◌, ◌-◌, ◌*◌, ◌/◌, ◌%◌, ◌^◌, ◌<◌, true, false, cond, not, ◌&&◌, ◌||◌, eqb, ltb, sym, refl, ap, ◌∙◌, inl, inr, pow-suc, zero-add, one-add, arith, pow_pos, shr-shr}
-use lib.Bits.{bit_and, bit_or, and_shr, or_shr, and_mod, or_mod, and_mask}
+use Rattle.std.proofs.Common.{◌≡◌, ℕ, zero, suc, ◌+◌, ◌-◌, ◌*◌, ◌/◌, ◌%◌, ◌^◌, ◌<◌, min, max, true, false, cond, not, ◌&&◌, ◌||◌, eqb, ltb, sym, refl, ap, ◌∙◌, inl, inr, pow-suc, zero-add, one-add, arith, shr-shr, w64}
+use lib.Bits.{bit_and, bit_or}
 use lib.Count.{ones, ones_step, count_trailing_zeros}
-use lib.Dec.{eqb-zero-suc, eqb-suc-zero, eqb-suc-suc, leb-suc-suc}
-use Rattle.std.proofs.lemmas.Bool.{both_ways, cases_eq, lt-ltb, le-ltb}
+use Rattle.std.specs.Int.{bit_at}
+use Rattle.std.proofs.lemmas.Bool.{cases_eq, cases_lt, eq-eqb, eqb-true, lt-ltb, le-ltb, ne_eqb}
+use Rattle.std.proofs.lemmas.Bool.Decides.{nat_tests}
+use Rattle.std.proofs.lemmas.Nat.Bits.{bit_at-zero, bit_at_above, bit_at_and, bit_at_or, bit_at-lt, bit_at_not, bit_at-pow_same, bit_at-pow_other, bit_at_ones, bit_at_ones_above, bit_at-trailing_zeros}
 use Rattle.numbers.specs.Counting.{count}
 use Rattle.numbers.specs.Words.{bit}
 use Rattle.numbers.proofs.Counting.{count_same, count_split}
@@ -20,104 +22,64 @@ unfolding bit
 bit_low w = let e : w / 1 ≡ w = omega arith in rw e
 
 pub bit_zero : (k : ℕ) → bit 0 k ≡ false
-bit_zero zero = bit_low 0
-bit_zero (suc k) = bit_suc 0 k ∙ bit_zero k
+unfolding bit
+bit_zero k = ap (λ d. eqb d 1) (bit_at-zero k)
 
 -- a word of m digits has none from m on
 pub bit_below : (m w k : ℕ) → w < 2 ^ m → bit w k ≡ true → k < m
-bit_below zero w k h t =
-    let e : w ≡ 0 = omega arith in
-    absurd (both_ways (bit 0 k) (bit_zero k) (rw e at t))
-bit_below (suc m) w zero h t = omega arith
-bit_below (suc m) w (suc k) h t =
-    let p : 2 ^ suc m ≡ 2 ^ m * 2 = pow-suc 2 m in
-    let l : k < m = bit_below m (w / 2) k (omega arith) (sym (bit_suc w k) ∙ t) in
-    omega arith
+unfolding bit
+bit_below m w k h t =
+    let one = eqb-true (bit_at w k) 1 t in
+    elim (cases_lt k m) [ inl l ↦ l | inr g ↦ absurd (omega (arith, one, bit_at_above w m k h g)) ]
 
 -- ---- and, or
 
-digit_and : (x y : ℕ) → x < 2 → y < 2 → eqb (bit_and x y) 1 ≡ (eqb x 1 && eqb y 1)
-digit_and zero y hx hy = refl
-digit_and (suc zero) zero hx hy = refl
-digit_and (suc zero) (suc zero) hx hy = refl
-digit_and (suc zero) (suc (suc y)) hx hy = absurd (omega arith)
-digit_and (suc (suc x)) y hx hy = absurd (omega arith)
+digit_and : (x y : ℕ) → x < 2 → y < 2 → eqb (min x y) 1 ≡ (eqb x 1 && eqb y 1)
+digit_and x y hx hy = grind (arith, nat_tests)
 
-digit_or : (x y : ℕ) → x < 2 → y < 2 → eqb (bit_or x y) 1 ≡ (eqb x 1 || eqb y 1)
-digit_or zero y hx hy = refl
-digit_or (suc zero) zero hx hy = refl
-digit_or (suc zero) (suc zero) hx hy = refl
-digit_or (suc zero) (suc (suc y)) hx hy = absurd (omega arith)
-digit_or (suc (suc x)) y hx hy = absurd (omega arith)
+digit_or : (x y : ℕ) → x < 2 → y < 2 → eqb (max x y) 1 ≡ (eqb x 1 || eqb y 1)
+digit_or x y hx hy = grind (arith, nat_tests)
 
 pub bit-bit_and : (a b k : ℕ) → bit (bit_and a b) k ≡ (bit a k && bit b k)
 unfolding bit
-bit-bit_and a b k =
-    rw (and_shr a b k, and_mod (a / 2 ^ k) (b / 2 ^ k) 1)
-    (digit_and (a / 2 ^ k % 2) (b / 2 ^ k % 2) (omega arith) (omega arith))
+bit-bit_and a b k = ap (λ d. eqb d 1) (bit_at_and a b k) ∙ digit_and (bit_at a k) (bit_at b k) (bit_at-lt a k) (bit_at-lt b k)
 
 pub bit-bit_or : (a b k : ℕ) → bit (bit_or a b) k ≡ (bit a k || bit b k)
 unfolding bit
-bit-bit_or a b k =
-    rw (or_shr a b k, or_mod (a / 2 ^ k) (b / 2 ^ k) 1)
-    (digit_or (a / 2 ^ k % 2) (b / 2 ^ k % 2) (omega arith) (omega arith))
-
--- what the code reads by a shift and a mask
-pub bit_read : (w k : ℕ) → bit_and (w / 2 ^ k) 1 ≡ w / 2 ^ k % 2
-bit_read w k = and_mask (w / 2 ^ k) 1
+bit-bit_or a b k = ap (λ d. eqb d 1) (bit_at_or a b k) ∙ digit_or (bit_at a k) (bit_at b k) (bit_at-lt a k) (bit_at-lt b k)
 
 -- ---- not, and a single digit
 
-digit_not : (x y : ℕ) → x + y ≡ 1 → eqb y 1 ≡ not (eqb x 1)
-digit_not zero y h = let e : y ≡ 1 = omega arith in rw e
-digit_not (suc zero) y h = let e : y ≡ 0 = omega arith in rw e
-digit_not (suc (suc x)) y h = absurd (omega arith)
-
--- two words that make up all ones between them
-pub bit_not : (m b c k : ℕ) → b + c + 1 ≡ 2 ^ m → k < m → bit c k ≡ not (bit b k)
-bit_not zero b c k e l = absurd (omega arith)
-bit_not (suc m) b c zero e l =
-    let p : 2 ^ suc m ≡ 2 ^ m * 2 = pow-suc 2 m in
-    rw (bit_low b, bit_low c) (digit_not (b % 2) (c % 2) (omega arith))
-bit_not (suc m) b c (suc k) e l =
-    let p : 2 ^ suc m ≡ 2 ^ m * 2 = pow-suc 2 m in
-    rw (bit_suc b k, bit_suc c k) (bit_not m (b / 2) (c / 2) k (omega arith) (omega arith))
+digit_not : (x : ℕ) → x < 2 → eqb (1 - x) 1 ≡ not (eqb x 1)
+digit_not x h = grind (arith, nat_tests)
 
 -- what the code takes out by a mask
 pub bit_and_not : (a b k : ℕ) → b < 2 ^ 64 → k < 64 → bit (bit_and a ((2 ^ 64 - 1) - b)) k ≡ (bit a k && not (bit b k))
-bit_and_not a b k h l = bit-bit_and a ((2 ^ 64 - 1) - b) k ∙ rw (bit_not 64 b ((2 ^ 64 - 1) - b) k (omega arith) l)
+unfolding bit
+bit_and_not a b k h l =
+    bit-bit_and a ((2 ^ 64 - 1) - b) k
+    ∙ ap (λ d. bit a k && d) (ap (λ d. eqb d 1) (bit_at_not w64 b k h l) ∙ digit_not (bit_at b k) (bit_at-lt b k))
 
 pub bit_pow : (j k : ℕ) → bit (2 ^ j) k ≡ eqb k j
-bit_pow zero zero = bit_low 1
-bit_pow zero (suc k) = bit_suc 1 k ∙ bit_zero k ∙ sym (eqb-suc-zero k)
-bit_pow (suc j) zero =
-    let p : 2 ^ suc j ≡ 2 ^ j * 2 = pow-suc 2 j in
-    let e : 2 ^ suc j % 2 ≡ 0 = omega arith in
-    bit_low (2 ^ suc j) ∙ rw e (sym (eqb-zero-suc j))
-bit_pow (suc j) (suc k) =
-    let p : 2 ^ suc j ≡ 2 ^ j * 2 = pow-suc 2 j in
-    let e : 2 ^ suc j / 2 ≡ 2 ^ j = omega arith in
-    bit_suc (2 ^ suc j) k ∙ rw e (bit_pow j k) ∙ sym (eqb-suc-suc k j)
+unfolding bit
+bit_pow j k =
+    elim (cases_eq k j) [
+      | inl e ↦ rw e (ap (λ d. eqb d 1) (bit_at-pow_same j) ∙ sym (eq-eqb j j refl))
+      | inr d ↦ ap (λ d. eqb d 1) (bit_at-pow_other j k d) ∙ sym (ne_eqb k j d)
+    ]
 
 pub bit_ones : (m k : ℕ) → bit (2 ^ m - 1) k ≡ ltb k m
-bit_ones zero k = bit_zero k ∙ sym (le-ltb k 0 (omega arith))
-bit_ones (suc m) zero =
-    let p : 2 ^ suc m ≡ 2 ^ m * 2 = pow-suc 2 m in
-    let q : 0 < 2 ^ m = pow_pos m in
-    let e : (2 ^ suc m - 1) % 2 ≡ 1 = omega arith in
-    bit_low (2 ^ suc m - 1) ∙ rw e (sym (lt-ltb 0 (suc m) (omega arith)))
-bit_ones (suc m) (suc k) =
-    let p : 2 ^ suc m ≡ 2 ^ m * 2 = pow-suc 2 m in
-    let q : 0 < 2 ^ m = pow_pos m in
-    let e : (2 ^ suc m - 1) / 2 ≡ 2 ^ m - 1 = omega arith in
-    bit_suc (2 ^ suc m - 1) k ∙ rw e (bit_ones m k) ∙ sym (leb-suc-suc (suc k) m)
+unfolding bit
+bit_ones m k =
+    elim (cases_lt k m) [
+      | inl l ↦ ap (λ d. eqb d 1) (bit_at_ones m k l) ∙ sym (lt-ltb k m l)
+      | inr g ↦ ap (λ d. eqb d 1) (bit_at_ones_above m k g) ∙ sym (le-ltb k m g)
+    ]
 
 -- ---- what `count_ones` and `trailing_zeros` answer
 
 digit_count : (x : ℕ) → x < 2 → x ≡ cond (eqb x 1) 1 0
-digit_count zero h = refl
-digit_count (suc zero) h = refl
-digit_count (suc (suc x)) h = absurd (omega arith)
+digit_count x h = grind (arith, nat_tests)
 
 pub ones_count : (m w : ℕ) → w < 2 ^ m → ones w ≡ count (bit w) m
 unfolding count ones
@@ -134,25 +96,9 @@ ones_count (suc m) w h =
     omega arith
 
 -- a word that is not 0 has a lowest digit that is set
-pub lowest : (m w : ℕ) → 0 < w → w < 2 ^ m
-    → (count_trailing_zeros m w < m) × (bit w (count_trailing_zeros m w) ≡ true) × ((j : ℕ) → j < count_trailing_zeros m w → bit w j ≡ false)
-unfolding count_trailing_zeros
-lowest zero w p h = absurd (omega arith)
-lowest (suc m) w p h =
-    let e : 2 ^ suc m ≡ 2 ^ m * 2 = pow-suc 2 m in
-    elim (cases_eq (w % 2) 0) [
-      | inl z ↦
-          let rest = lowest m (w / 2) (omega arith) (omega arith) in
-          rw z (
-            omega arith,
-            bit_suc w (count_trailing_zeros m (w / 2)) ∙ rest.1,
-            λ j l. below (count_trailing_zeros m (w / 2)) z rest.2 j l,
-          )
-      | inr d ↦
-          let o : w % 2 ≡ 1 = omega arith in
-          rw o (omega arith, bit_low w ∙ rw o, λ j l. absurd (omega arith))
-    ]
-  where
-    below : (t : ℕ) → w % 2 ≡ 0 → ((j : ℕ) → j < t → bit (w / 2) j ≡ false) → (j : ℕ) → j < suc t → bit w j ≡ false
-    below t z h zero l = bit_low w ∙ rw z
-    below t z h (suc j) l = bit_suc w j ∙ h j (omega arith)
+pub lowest : (w : ℕ) → 0 < w → w < 2 ^ 64
+    → (count_trailing_zeros 64 w < 64) × (bit w (count_trailing_zeros 64 w) ≡ true) × ((j : ℕ) → j < count_trailing_zeros 64 w → bit w j ≡ false)
+unfolding bit
+lowest w p h =
+    let at = bit_at-trailing_zeros w64 w p h in
+    (at.0, ap (λ d. eqb d 1) at.1, λ j l. ap (λ d. eqb d 1) (at.2 j l))

@@ -1,5 +1,5 @@
 pub mod Counting
 pub mod Iterating
-pub mod Rules
+pub mod Picking
 pub mod Sets
 pub mod Words

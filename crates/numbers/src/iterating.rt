@@ -33,3 +33,15 @@ impl Iterator for Members {
         found
     }
 }
+
+impl IntoIterator for &NumberSet {
+    type Item = usize;
+
+    type IntoIter = Members;
+
+    ghost into_iter_gives = { λ set members. (source members ≡ set.now) × (place members ≡ 0) };
+
+    fn into_iter(self) -> Members {
+        self.iter()
+    }
+}

@@ -55,4 +55,18 @@ mod tests {
         assert_eq!(rt; edges.len(), 104);
         assert_eq!(rt; NumberSet::below(1000).len(), 512);
     }
+
+    #[test]
+    fn by_a_test(rt: HostRuntime) {
+        let even = NumberSet::of(100, |n| n % 2 == 0);
+        assert_eq!(rt; even.len(), 50);
+        assert_eq!(rt; even.next(1), Some(2));
+        assert_eq!(rt; NumberSet::of(1000, |_| true), NumberSet::below(512));
+        assert_eq!(rt; NumberSet::default(), NumberSet::new());
+        let mut sum = 0usize;
+        for n in &NumberSet::below(4) {
+            sum = sum.wrapping_add(n);
+        }
+        assert_eq!(rt; sum, 6);
+    }
 }

@@ -5,6 +5,7 @@ use views::merge_table::MergeTable;
 #[derive(Clone, Copy)]
 pub struct Looks {
     // the class of each number, and the one that is looked at
+    // arrays, each for one view: the library takes no heap
     pub classes: [Option<Class>; 512],
     pub chosen: Class,
     // the numbers that are joined to one another

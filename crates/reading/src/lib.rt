@@ -1,7 +1,7 @@
 #![tactic(auto)]
 
 // Reading any graph into rows, so that a session asks it only once.
-ghost use Rattle.std.specs.Prelude.{◌≡◌, ℕ, ◌<◌, length};
+ghost use Rattle.std.specs.Prelude.{◌≡◌, ℕ};
 ghost use Rattle.numbers.specs.Sets.{has};
 ghost use Rattle.board.specs.Rows.{row_has};
 ghost use Rattle.board.specs.Boards.{opened_graph, table_of};
@@ -9,46 +9,32 @@ ghost use Rattle.board.specs.Boards.{opened_graph, table_of};
 use board::Board;
 use graph::Graph;
 use numbers::NumberSet;
+use std::array;
 
 fn vertices_of<H: Graph>(graph: &H) -> NumberSet
     ensures { (v : ℕ) → has result v ≡ (H.means graph.now).shape.stands v }
 {
-    let n = graph.size();
-    let mut vertices = NumberSet::new();
-    for v in 0..n {
-        if graph.stands(v) {
-            vertices.insert(v);
-        }
-    }
-    vertices
-}
-
-fn row_of<H: Graph>(graph: &H, u: usize) -> NumberSet
-    ensures { (v : ℕ) → has result v ≡ (H.means graph.now).shape.joined u v }
-{
-    let n = graph.size();
-    let mut row = NumberSet::new();
-    for v in 0..n {
-        if graph.joined(u, v) {
-            row.insert(v);
-        }
-    }
-    row
+    NumberSet::of(graph.size(), |v| graph.stands(v))
 }
 
 // Only vertices are asked for their neighbours.
-fn rows_of<H: Graph>(graph: &H, vertices: &NumberSet) -> [NumberSet; 512]
-    requires { (v : ℕ) → has vertices.now v ≡ (H.means graph.now).shape.stands v }
-    ensures whole { length result ≡ 512 }
-    ensures each { (u v : ℕ) → row_has result u v ≡ (H.means graph.now).shape.joined u v }
+fn row_of<H: Graph>(graph: &H, u: usize) -> NumberSet
+    ensures { (v : ℕ) → has result v ≡ (H.means graph.now).shape.joined u v }
 {
-    let mut rows = [NumberSet::new(); 512];
-    for u in 0..512 {
-        if vertices.contains(u) {
-            rows[u] = row_of(graph, u);
-        }
+    if !graph.stands(u) {
+        return NumberSet::new();
     }
-    rows
+    NumberSet::of(graph.size(), |v| graph.joined(u, v))
+}
+
+fn rows_of<H: Graph>(graph: &H) -> [NumberSet; 512]
+    ensures { (u v : ℕ) → row_has result u v ≡ (H.means graph.now).shape.joined u v }
+{
+    array::from_fn(
+        |u|
+            ensures { (v : ℕ) → has result v ≡ (H.means graph.entry.now).shape.joined u v }
+        { row_of(graph, u) },
+    )
 }
 
 // A board of the graph, nothing merged.
@@ -56,7 +42,5 @@ pub fn board_of<H: Graph>(graph: &H) -> Board
     ensures graph { opened_graph result ≡ (H.means graph.now).shape }
     ensures table { table_of result ≡ (λ v. v) }
 {
-    let vertices = vertices_of(graph);
-    let rows = rows_of(graph, &vertices);
-    Board::new(graph.size(), vertices, rows)
+    Board::new(graph.size(), vertices_of(graph), rows_of(graph))
 }

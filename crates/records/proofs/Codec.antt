@@ -25,14 +25,14 @@ got_value e = cc
 pub got_place : {A : Type 0} {a b : A} {p q : ℕ} → got a p ≡ got b q → p ≡ q
 got_place e = cc
 
+-- what was read behind a check that came out true
+pub when_got : {A : Type 0} (t : Bool) (x : Read A) (number at : ℕ) (a : A) (q : ℕ) → cond t x (bad number at) ≡ got a q → (t ≡ true) × (x ≡ got a q)
+when_got true x number at a q e = (refl, e)
+when_got false x number at a q e = absurd (never e)
+
 -- a check that let a value through
 pub checked_got : {A : Type 0} (t : Bool) (number at : ℕ) (v a : A) (p q : ℕ) → checked t number at v p ≡ got a q → (t ≡ true) × (v ≡ a) × (p ≡ q)
-checked_got true number at v a p q e = (refl, got_value e, got_place e)
-checked_got false number at v a p q e = absurd (never e)
-
-pub long_got : {A : Type 0} (t : Bool) (n : ℕ) (v a : A) (p q : ℕ) → cond t (got v p) (bad 3 n) ≡ got a q → (t ≡ true) × (v ≡ a) × (p ≡ q)
-long_got true n v a p q e = (refl, got_value e, got_place e)
-long_got false n v a p q e = absurd (never e)
+checked_got t number at v a p q e = let w = when_got t (got v p) number at a q e in (w.0, got_value w.1, got_place w.1)
 
 -- A reader and a writer that undo each other on one input: what is read is written there and passes the test,
 -- and what is written there and passes the test is read.
@@ -79,7 +79,7 @@ if_there_complete input read write ok c b at (Some a) pass there stands = rw (�
 pub byte_codec : (input : List ℕ) → Bytes input → Codec input (byte input) (λ b. b ∷ []) (λ b. ltb b 256)
 byte_codec input bytes = record {
   sound = λ at a q e.
-      let s = long_got (leb (at + 1) (length input)) (length input) (get_or input at 0) a (at + 1) q e in
+      let s = checked_got (leb (at + 1) (length input)) 3 (length input) (get_or input at 0) a (at + 1) q e in
       rw (← s.1, ← s.2) (refl, stands_byte input at (leb-true (at + 1) (length input) s.0), lt-ltb (get_or input at 0) 256 (bytes at));
   complete = λ at a ok stands.
       let within = stands_within input at a [] stands in
@@ -94,7 +94,7 @@ two_codec input bytes = record {
   sound = λ at a q e.
       let low = get_or input at 0 in
       let high = get_or input (at + 1) 0 in
-      let s = long_got (leb (at + 2) (length input)) (length input) (low + 256 * high) a (at + 2) q e in
+      let s = checked_got (leb (at + 2) (length input)) 3 (length input) (low + 256 * high) a (at + 2) q e in
       let less = bytes at in
       let less' = bytes (at + 1) in
       let first : (low + 256 * high) % 256 ≡ low = omega arith in

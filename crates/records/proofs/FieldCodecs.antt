@@ -1,33 +1,32 @@
 -- Each field of a record, read and written.
-use Rattle.std.proofs.Common.{◌≡◌, ℕ, suc, ◌+◌, ◌<◌, ◌≤◌, Bool, true, false, cond, ◌&&◌, eqb, ltb, leb, List, [], ◌∷◌, length, get_or, take, drop, Option, refl, ap, arith, length-drop, length-take}
-use Rattle.std.proofs.lemmas.List.{get_or-drop, get_or-take}
-use Rattle.std.proofs.lemmas.Bool.{leb-true, le-leb, and_parts, and_from, lt-ltb, eq-eqb, eqb-true}
+use Rattle.std.proofs.Common.{◌≡◌, ℕ, ◌+◌, ◌<◌, ◌≤◌, Bool, true, false, cond, Decides, ◌&&◌, eqb, ltb, leb, List, length, take, drop, Option, refl, ap, arith, length-drop, length-take}
+use Rattle.std.proofs.lemmas.Bool.Decides.{Decides-by_and, Decides-ltb}
+use Rattle.std.proofs.lemmas.List.Elements.{All-drop, All-from_get_or, All-take}
+use Rattle.std.specs.List.{All}
+use Rattle.std.proofs.lemmas.Bool.{leb-true, le-leb, and_parts, and_from, eq-eqb, eqb-true}
 use Rattle.code.specs.Writing.{two_bytes}
 use Rattle.fields.specs.InUse.{in_use, below_given}
 use Rattle.records.specs.Keeping.{Stands, Bytes, short, all_bytes, eight}
 use Rattle.fields.specs.Reading.{got, part}
 use Rattle.fields.specs.Operands.{operand, source, target, slot, same_class}
 use Rattle.fields.specs.declared.limits.Limits.{Limits}
-use Rattle.records.proofs.Codec.{Codec, and_checked, two_codec, long_got}
+use Rattle.records.proofs.Codec.{Codec, and_checked, two_codec, checked_got}
 
-all_bytes_from : (xs : List ℕ) → ((k : ℕ) → k < length xs → get_or xs k 0 < 256) → all_bytes xs ≡ true
-all_bytes_from [] each = refl
-all_bytes_from (x ∷ xs) each =
-    and_from (ltb x 256) (all_bytes xs) (lt-ltb x 256 (each 0 (omega arith)))
-    (all_bytes_from xs (λ k less. each (suc k) (omega arith)))
+-- the test of bytes is true exactly of bytes
+pub all_decides : (xs : List ℕ) → Decides (all_bytes xs) (All (λ b. b < 256) xs)
+all_decides = Decides-by_and (λ b. ltb b 256) (λ b. b < 256) all_bytes (λ b. Decides-ltb b 256) refl (λ _ _. refl)
 
 module _ (input : List ℕ) (bytes : Bytes input) where
   -- a part of the input consists of bytes
   pub part_bytes : (at size : ℕ) → all_bytes (take size (drop at input)) ≡ true
-  part_bytes at size = all_bytes_from (take size (drop at input)) (λ k less.
-      let less' : k < size = omega (arith, length-take size (drop at input)) in
-      rw (get_or-take size (drop at input) k 0 less', get_or-drop at input k 0) (bytes (at + k)))
+  part_bytes at size = (all_decides (take size (drop at input))).1
+      (All-take (λ b. b < 256) size (drop at input) (All-drop (λ b. b < 256) at input (All-from_get_or (λ b. b < 256) input 0 (λ k _. bytes k))))
 
   -- so many bytes
   pub part_sound : (size at : ℕ) (xs : List ℕ) (q : ℕ) → part size input at ≡ got xs q
       → (q ≡ at + length xs) × Stands input at xs × (length xs ≡ size) × (all_bytes xs ≡ true)
   part_sound size at xs q e =
-      let s = long_got (leb (at + size) (length input)) (length input) (take size (drop at input)) xs (at + size) q e in
+      let s = checked_got (leb (at + size) (length input)) 3 (length input) (take size (drop at input)) xs (at + size) q e in
       let within = leb-true (at + size) (length input) s.0 in
       let long : length (take size (drop at input)) ≡ size = simp (length-take, length-drop) (omega arith) in
       rw (← s.1, ← s.2, long) (refl, refl, refl, part_bytes at size)

@@ -1,5 +1,6 @@
 pub mod Stands
 pub mod Codec
+pub mod Maps
 pub mod FieldCodecs
 pub mod Rows
 pub mod RoundTrip

@@ -1,17 +1,20 @@
 -- A record is read exactly where its writing stands and it keeps the rules.
 use Rattle.std.proofs.Common.{◌≡◌, ℕ, ◌+◌, ◌*◌, ◌/◌, ◌%◌, ◌<◌, ◌≤◌, Bool, true, false, cond, ◌&&◌, ◌||◌, eqb, leb, List, [], ◌∷◌, length, is_some, Some, None, Option, sym, refl, ◌∙◌, inl, inr, arith}
 use Rattle.std.proofs.lemmas.Bool.{and_parts, and_from, lt-ltb, ltb-true, eqb-true, eq-eqb, or_cases, false≢true}
+use Rattle.std.proofs.lemmas.Bool.Decides.{nat_tests}
+use Rattle.std.specs.List.{AllByRecursion}
 use Rattle.code.specs.Kinds.{Entry, own, has_field, among, listed, operator_maps, formula_kinds, slot_kinds}
 use Rattle.code.specs.Rows.{Fields}
 use Rattle.code.specs.Writing.{row_bytes, body_bytes, map_byte, bit_of}
 use Rattle.fields.specs.InUse.{in_use}
 use Rattle.records.specs.Keeping.{Stands, Bytes, Keeps, passes, short}
 use Rattle.records.specs.Laws.{ReadsWritings}
-use Rattle.fields.specs.Reading.{Read, got, bad, byte}
+use Rattle.fields.specs.Reading.{got, byte}
 use Rattle.fields.specs.Operands.{same_class}
 use Rattle.records.specs.Records.{fields_at, record_at}
 use Rattle.fields.specs.declared.limits.Limits.{Limits}
-use Rattle.records.proofs.Codec.{never, then_elim, byte_codec}
+use Rattle.records.proofs.Codec.{then_elim, when_got, byte_codec}
+use Rattle.records.proofs.Maps.{among_holds}
 use Rattle.records.proofs.Rows.{Body, body_sound, body_complete}
 use Rattle.records.proofs.Stands.{stands_next, stands_front, stands_back}
 
@@ -36,23 +39,10 @@ map_is f =
 abbrev Summed : ℕ → Type 0
 Summed m = sum_of (has_field 0x01 m) (has_field 0x02 m) (has_field 0x04 m) (has_field 0x08 m) (has_field 0x10 m) (has_field 0x40 m) ≡ m
 
-abbrev AllSummed : List Entry → Type 0
-AllSummed [] = Unit {0}
-AllSummed (e ∷ es) = Summed e.map × AllSummed es
-
-abbrev EachSummed : List ℕ → Type 0
-EachSummed [] = Unit {0}
-EachSummed (x ∷ xs) = Summed x × EachSummed xs
-
 summed_at : (m x : ℕ) → eqb m x ≡ true → Summed x → Summed m
 summed_at m x e h = rw (eqb-true m x e) h
 
-among_summed : (xs : List ℕ) (m : ℕ) → EachSummed xs → among xs m ≡ true → Summed m
-among_summed [] m all e = absurd (false≢true e)
-among_summed (x ∷ xs) m all e =
-    elim (or_cases (eqb m x) (among xs m) e) [ inl h ↦ summed_at m x h all.0 | inr h ↦ among_summed xs m all.1 h ]
-
-listed_summed : (es : List Entry) (k m : ℕ) → AllSummed es → listed es k m ≡ true → Summed m
+listed_summed : (es : List Entry) (k m : ℕ) → AllByRecursion (λ x. Summed x.map) es → listed es k m ≡ true → Summed m
 listed_summed [] k m all e = absurd (false≢true e)
 listed_summed (x ∷ es) k m all e =
     elim (or_cases (eqb k x.kind && eqb m x.map) (listed es k m) e) [
@@ -64,7 +54,7 @@ listed_summed (x ∷ es) k m all e =
 own_summed : (s : Bool) (k m : ℕ) → own s k m ≡ true → Summed m
 own_summed s k m e =
     elim (or_cases (leb 16 k && among operator_maps m) (listed formula_kinds k m || (s && listed slot_kinds k m)) e) [
-      | inl h ↦ among_summed operator_maps m (refl, (refl, (refl, (refl, tt)))) (and_parts (leb 16 k) (among operator_maps m) h).1
+      | inl h ↦ among_holds Summed operator_maps m (refl, (refl, (refl, (refl, tt)))) (and_parts (leb 16 k) (among operator_maps m) h).1
       | inr h ↦ elim (or_cases (listed formula_kinds k m) (s && listed slot_kinds k m) h) [
         | inl h ↦ listed_summed formula_kinds k m (refl, (refl, (refl, (refl, (refl, (refl, tt)))))) h
         | inr h ↦ listed_summed slot_kinds k m (refl, (refl, tt)) (and_parts s (listed slot_kinds k m) h).1
@@ -72,8 +62,7 @@ own_summed s k m e =
     ]
 
 one_small : (b : Bool) → one_if b ≤ 1
-one_small true = omega arith
-one_small false = omega arith
+one_small b = grind (arith, nat_tests)
 
 -- a map is a byte
 pub map_small : (f : Fields) → map_byte f < 256
@@ -90,8 +79,7 @@ map_small f =
 
 -- a bit of the sum is the field's own
 bit_back : (b : Bool) (n : ℕ) → n ≡ one_if b → b ≡ eqb n 1
-bit_back true n e = rw e refl
-bit_back false n e = rw e refl
+bit_back b n e = grind (arith, nat_tests)
 
 -- the six fields of a map, back from their sum
 sum_has : (b₁ b₂ b₃ b₄ b₅ b₆ : Bool) (m : ℕ) → m ≡ sum_of b₁ b₂ b₃ b₄ b₅ b₆
@@ -130,10 +118,6 @@ when_move : {A : Type 0} (moves : Bool) (t : A → Bool) (o : Option A) → (mov
 when_move true t o h = h refl
 when_move false t o h = passes_any o
 
-own_elim : {C : Type 0} (t : Bool) (x : Read Fields) (f : Fields) (at q : ℕ) → cond t x (bad 6 at) ≡ got f q → (t ≡ true → x ≡ got f q → C) → C
-own_elim true x f at q e use-it = use-it refl e
-own_elim false x f at q e use-it = absurd (never e)
-
 module _ (input : List ℕ) (bytes : Bytes input) (l : Limits) (at : ℕ) (f : Fields) where
   pub record_sound : (q : ℕ) → record_at l input at ≡ got f q
       → (q ≡ at + length (row_bytes f)) × Stands input at (row_bytes f) × Keeps l f
@@ -141,10 +125,11 @@ module _ (input : List ℕ) (bytes : Bytes input) (l : Limits) (at : ℕ) (f : F
   record_sound q e =
       then_elim (byte input at) _ f q e (λ m p₁ r₁ e₁.
       then_elim (byte input p₁) _ f q e₁ (λ k p₂ r₂ e₂.
-      own_elim (own (is_some l.slots) k m) (fields_at l input (eqb k 3) k m p₂) f at q e₂ (λ owned e₃.
+      let own_map = when_got (own (is_some l.slots) k m) (fields_at l input (eqb k 3) k m p₂) 6 at f q e₂ in
+      let owned = own_map.0 in
       let w₁ = (byte_codec input bytes).sound at m p₁ r₁ in
       let w₂ = (byte_codec input bytes).sound p₁ k p₂ r₂ in
-      let w₃ = body_sound input bytes l (eqb k 3) k m p₂ f q e₃ in
+      let w₃ = body_sound input bytes l (eqb k 3) k m p₂ f q own_map.1 in
       let b = w₃.2 in
       let map : map_byte f ≡ m =
       map_is f ∙ (rw (b.has_destination, b.has_first, b.has_second, b.has_target, b.has_constant, b.has_slot) (own_summed (is_some l.slots) k m owned)) in
@@ -163,7 +148,7 @@ module _ (input : List ℕ) (bytes : Bytes input) (l : Limits) (at : ℕ) (f : F
           slot = b.slot;
           constant = b.constant;
         },
-      ))))
+      )))
 
   pub record_complete : Keeps l f → Stands input at (row_bytes f) → record_at l input at ≡ got f (at + length (row_bytes f))
   unfolding record_at

@@ -1,10 +1,12 @@
 -- What is written consists of bytes.
 use Rattle.std.proofs.Common.{◌≡◌, ℕ, zero, suc, ◌/◌, ◌%◌, ◌<◌, Bool, true, eqb, ltb, List, [], ◌∷◌, ◌++◌, length, Some, None, Option, refl, arith}
 use Rattle.std.proofs.lemmas.Bool.{and_parts, and_from, lt-ltb, ltb-true}
+use Rattle.std.proofs.lemmas.List.Elements.{All-append}
 use Rattle.code.specs.Rows.{Fields}
 use Rattle.code.specs.Writing.{two_bytes, if_there, row_bytes, map_byte}
 use Rattle.records.specs.Keeping.{Bytes, Keeps, all_bytes, passes, short, eight}
 use Rattle.fields.specs.declared.limits.Limits.{Limits}
+use Rattle.records.proofs.FieldCodecs.{all_decides}
 use Rattle.records.proofs.RoundTrip.{map_small}
 
 pub bytes_from : (xs : List ℕ) → all_bytes xs ≡ true → Bytes xs
@@ -13,10 +15,7 @@ bytes_from (x ∷ xs) ok zero = ltb-true x 256 (and_parts (ltb x 256) (all_bytes
 bytes_from (x ∷ xs) ok (suc k) = bytes_from xs (and_parts (ltb x 256) (all_bytes xs) ok).1 k
 
 pub all_append : (xs ys : List ℕ) → all_bytes xs ≡ true → all_bytes ys ≡ true → all_bytes (xs ++ ys) ≡ true
-all_append [] ys h k = k
-all_append (x ∷ xs) ys h k =
-    let parts = and_parts (ltb x 256) (all_bytes xs) h in
-    and_from (ltb x 256) (all_bytes (xs ++ ys)) parts.0 (all_append xs ys parts.1 k)
+all_append xs ys h k = (all_decides (xs ++ ys)).1 (All-append (λ b. b < 256) xs ys ((all_decides xs).0 h) ((all_decides ys).0 k))
 
 pub all_two : (n : ℕ) → n < 65536 → all_bytes (two_bytes n) ≡ true
 all_two n less =

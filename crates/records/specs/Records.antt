@@ -1,10 +1,11 @@
 -- How a record is read: map and kind, then each field that the map has, in order, each read and then checked before the next.
-use Rattle.std.specs.Prelude.{ℕ, Bool, cond, List, is_some, ◌==◌}
+use Rattle.std.specs.Prelude.{ℕ, Bool, cond, List, is_some, Some, None, ◌==◌}
 use Rattle.code.specs.Kinds.{own, has_field}
 use Rattle.code.specs.Rows.{Fields}
 use Rattle.fields.specs.Operands.{operand, source, target, slot}
 use Rattle.fields.specs.Reading.{Read, got, bad, then, byte, part, if_there}
 use Rattle.fields.specs.declared.limits.Limits.{Limits}
+use Rattle.fields.specs.declared.place.Place.{Place}
 
 -- the fields of a record with this kind and map, from the place behind them on
 abbrev pub fields_at : Limits → List ℕ → Bool → ℕ → ℕ → ℕ → Read Fields
@@ -24,6 +25,27 @@ fields_at l bytes moves k m place =
       constant = constant;
       slot = slot;
     }) p₆))))))
+
+-- the same at a place, and within the limits there
+abbrev pub body_at : Place → Bool → ℕ → ℕ → Read Fields
+body_at p moves k m = fields_at p.limits.now p.bytes.now moves k m p.at
+
+-- the fields of an operator, by whether it has a second source and a constant
+abbrev pub operator_at : Place → ℕ → Bool → Bool → Read Fields
+operator_at p k two constant =
+    then (operand p.limits.now p.bytes.now p.at) (λ to p₁.
+    then (operand p.limits.now p.bytes.now p₁) (λ first p₂.
+    then (if_there two (operand p.limits.now p.bytes.now) p₂) (λ second p₃.
+    then (if_there constant (part 8 p.bytes.now) p₃) (λ value p₄.
+    got (record {
+      kind = k;
+      destination = Some to;
+      first = Some first;
+      second = second;
+      target = None;
+      constant = value;
+      slot = None;
+    }) p₄))))
 
 -- map and kind, and then the fields; a map that is not the kind's own is refusal 6, at the record's first byte
 abbrev pub parsed_at : Limits → List ℕ → ℕ → Read Fields

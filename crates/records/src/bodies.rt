@@ -1,66 +1,74 @@
-ghost use Rattle.std.specs.Prelude.{◌≡◌, ◌+◌, true, false};
+ghost use Rattle.std.specs.Prelude.{◌≡◌, ◌+◌, ◌≤◌, true, false, length};
 ghost use Rattle.records.specs.Outcome.{record_read};
-ghost use Rattle.records.specs.Records.{fields_at};
+ghost use Rattle.records.specs.Records.{body_at};
 
 use crate::record::Record;
-use fields::fault::RecordFault;
-use fields::limits::Limits;
-use fields::operands::{move_source_at, operand_at, slot_at, target_at};
-use fields::parts::eight_at;
+use fields::{Place, RecordFault};
 
 // A record with the place behind it.
 pub type Found<'a> = Result<(Record<'a>, usize), RecordFault>;
 
-pub fn constant<'a>(limits: &Limits, bytes: &'a [u8], at: usize) -> Found<'a>
-    ensures { record_read result ≡ fields_at limits.now bytes.now false 2 0x11 at }
+// The place so many bytes on.
+pub(crate) fn past<'l, 'a>(place: Place<'l, 'a>, size: usize) -> Place<'l, 'a>
+    requires { place.at + size ≤ length place.bytes.now }
+    ensures { result ≡ record place.entry { at = place.entry.at + size } }
 {
-    let to = operand_at(limits, bytes, at)?;
-    let value = eight_at(bytes, at + 2)?;
-    Ok((Record::Constant { to, value }, at + 2 + 8))
+    Place {
+        at: place.at + size,
+        ..place
+    }
 }
 
-pub fn transfer<'a>(limits: &Limits, bytes: &'a [u8], at: usize) -> Found<'a>
-    ensures { record_read result ≡ fields_at limits.now bytes.now true 3 0x03 at }
+pub fn constant<'a>(place: Place<'_, 'a>) -> Found<'a>
+    ensures { record_read result ≡ body_at place.entry false 2 0x11 }
 {
-    let to = operand_at(limits, bytes, at)?;
-    let from = move_source_at(limits, to, bytes, at + 2)?;
-    Ok((Record::Move { to, from }, at + 2 + 2))
+    let to = place.operand()?;
+    let value = past(place, 2).eight()?;
+    Ok((Record::Constant { to, value }, place.at + 2 + 8))
 }
 
-pub fn jump<'a>(limits: &Limits, bytes: &'a [u8], at: usize) -> Found<'a>
-    ensures { record_read result ≡ fields_at limits.now bytes.now false 4 0x08 at }
+pub fn transfer<'a>(place: Place<'_, 'a>) -> Found<'a>
+    ensures { record_read result ≡ body_at place.entry true 3 0x03 }
 {
-    let target = target_at(limits, bytes, at)?;
-    Ok((Record::Jump { target }, at + 2))
+    let to = place.operand()?;
+    let from = past(place, 2).move_source(to)?;
+    Ok((Record::Move { to, from }, place.at + 2 + 2))
 }
 
-pub fn branch<'a>(limits: &Limits, bytes: &'a [u8], at: usize) -> Found<'a>
-    ensures { record_read result ≡ fields_at limits.now bytes.now false 5 0x0A at }
+pub fn jump<'a>(place: Place<'_, 'a>) -> Found<'a>
+    ensures { record_read result ≡ body_at place.entry false 4 0x08 }
 {
-    let on = operand_at(limits, bytes, at)?;
-    let target = target_at(limits, bytes, at + 2)?;
-    Ok((Record::Branch { on, target }, at + 2 + 2))
+    let target = place.target()?;
+    Ok((Record::Jump { target }, place.at + 2))
 }
 
-pub fn give<'a>(limits: &Limits, bytes: &'a [u8], at: usize) -> Found<'a>
-    ensures { record_read result ≡ fields_at limits.now bytes.now false 6 0x02 at }
+pub fn branch<'a>(place: Place<'_, 'a>) -> Found<'a>
+    ensures { record_read result ≡ body_at place.entry false 5 0x0A }
 {
-    let from = operand_at(limits, bytes, at)?;
-    Ok((Record::Give { from }, at + 2))
+    let on = place.operand()?;
+    let target = past(place, 2).target()?;
+    Ok((Record::Branch { on, target }, place.at + 2 + 2))
 }
 
-pub fn load<'a>(limits: &Limits, bytes: &'a [u8], at: usize) -> Found<'a>
-    ensures { record_read result ≡ fields_at limits.now bytes.now false 8 0x41 at }
+pub fn give<'a>(place: Place<'_, 'a>) -> Found<'a>
+    ensures { record_read result ≡ body_at place.entry false 6 0x02 }
 {
-    let to = operand_at(limits, bytes, at)?;
-    let slot = slot_at(limits, bytes, at + 2)?;
-    Ok((Record::Load { to, slot }, at + 2 + 2))
+    let from = place.operand()?;
+    Ok((Record::Give { from }, place.at + 2))
 }
 
-pub fn store<'a>(limits: &Limits, bytes: &'a [u8], at: usize) -> Found<'a>
-    ensures { record_read result ≡ fields_at limits.now bytes.now false 9 0x42 at }
+pub fn load<'a>(place: Place<'_, 'a>) -> Found<'a>
+    ensures { record_read result ≡ body_at place.entry false 8 0x41 }
 {
-    let from = operand_at(limits, bytes, at)?;
-    let slot = slot_at(limits, bytes, at + 2)?;
-    Ok((Record::Store { from, slot }, at + 2 + 2))
+    let to = place.operand()?;
+    let slot = past(place, 2).slot()?;
+    Ok((Record::Load { to, slot }, place.at + 2 + 2))
+}
+
+pub fn store<'a>(place: Place<'_, 'a>) -> Found<'a>
+    ensures { record_read result ≡ body_at place.entry false 9 0x42 }
+{
+    let from = place.operand()?;
+    let slot = past(place, 2).slot()?;
+    Ok((Record::Store { from, slot }, place.at + 2 + 2))
 }

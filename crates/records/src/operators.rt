@@ -1,95 +1,70 @@
-ghost use Rattle.std.specs.Prelude.{◌≡◌, ◌+◌, true, false, ◌||◌};
+ghost use Rattle.std.specs.Prelude.{◌≡◌, ◌+◌, true, false, OnOk, IfOk};
 ghost use Rattle.code.specs.Kinds.{among, operator_maps};
-ghost use Rattle.records.specs.Outcome.{record_read};
-ghost use Rattle.records.specs.Records.{fields_at};
+ghost use Rattle.fields.specs.Operands.{operand};
+ghost use Rattle.fields.specs.Reading.{part, if_there};
+ghost use Rattle.records.specs.Outcome.{record_read, part_read};
+ghost use Rattle.records.specs.Records.{body_at, operator_at};
 
-use crate::bodies::Found;
+use crate::bodies::{Found, past};
 use crate::record::Record;
-use fields::limits::Limits;
-use fields::operands::operand_at;
-use fields::parts::eight_at;
+use fields::{Place, RecordFault};
 
-fn of_one<'a>(limits: &Limits, bytes: &'a [u8], kind: u8, at: usize) -> Found<'a>
-    ensures { record_read result ≡ fields_at limits.now bytes.now false kind 0x03 at }
+// A second source where there is one, with the place behind it. One function over what is read, for this and for the constant,
+// would say in clauses on its closure more than the two bodies hold.
+fn second_source<'l, 'a>(
+    place: Place<'l, 'a>,
+    there: bool,
+) -> Result<(Option<u16>, Place<'l, 'a>), RecordFault>
+    ensures value { part_read (λ number. number) result ≡ if_there there (operand place.entry.limits.now place.entry.bytes.now) place.entry.at }
+    ensures input { IfOk result (λ pair. (pair.1.limits.now ≡ place.entry.limits.now) × (pair.1.bytes.now ≡ place.entry.bytes.now)) }
 {
-    let to = operand_at(limits, bytes, at)?;
-    let first = operand_at(limits, bytes, at + 2)?;
-    Ok((
-        Record::Operator {
-            kind,
-            to,
-            first,
-            second: None,
-            constant: None,
-        },
-        at + 2 + 2,
-    ))
+    if !there {
+        return Ok((None, place));
+    }
+    let number = place.operand()?;
+    Ok((Some(number), past(place, 2)))
 }
 
-fn of_two<'a>(limits: &Limits, bytes: &'a [u8], kind: u8, at: usize) -> Found<'a>
-    ensures { record_read result ≡ fields_at limits.now bytes.now false kind 0x07 at }
+// A constant where there is one, with the place behind it.
+fn constant<'l, 'a>(
+    place: Place<'l, 'a>,
+    there: bool,
+) -> Result<(Option<&'a [u8; 8]>, Place<'l, 'a>), RecordFault>
+    ensures { part_read (λ b. b.now) result ≡ if_there there (part 8 place.entry.bytes.now) place.entry.at }
 {
-    let to = operand_at(limits, bytes, at)?;
-    let first = operand_at(limits, bytes, at + 2)?;
-    let second = operand_at(limits, bytes, at + 2 + 2)?;
-    Ok((
-        Record::Operator {
-            kind,
-            to,
-            first,
-            second: Some(second),
-            constant: None,
-        },
-        at + 2 + 2 + 2,
-    ))
+    if !there {
+        return Ok((None, place));
+    }
+    let bytes = place.eight()?;
+    Ok((Some(bytes), past(place, 8)))
 }
 
-fn of_one_and_constant<'a>(limits: &Limits, bytes: &'a [u8], kind: u8, at: usize) -> Found<'a>
-    ensures { record_read result ≡ fields_at limits.now bytes.now false kind 0x13 at }
+// An operator with or without a second source and a constant.
+// The kind is the operator's own byte.
+fn with_parts<'a>(place: Place<'_, 'a>, kind: u8, two: bool, constants: bool) -> Found<'a>
+    ensures { record_read result ≡ operator_at place.entry kind two constants }
 {
-    let to = operand_at(limits, bytes, at)?;
-    let first = operand_at(limits, bytes, at + 2)?;
-    let constant = eight_at(bytes, at + 2 + 2)?;
+    let to = place.operand()?;
+    let place = past(place, 2);
+    let first = place.operand()?;
+    let (second, place) = second_source(past(place, 2), two)?;
+    let (constant, place) = constant(place, constants)?;
     Ok((
         Record::Operator {
             kind,
             to,
             first,
-            second: None,
-            constant: Some(constant),
+            second,
+            constant,
         },
-        at + 2 + 2 + 8,
-    ))
-}
-
-fn of_two_and_constant<'a>(limits: &Limits, bytes: &'a [u8], kind: u8, at: usize) -> Found<'a>
-    ensures { record_read result ≡ fields_at limits.now bytes.now false kind 0x17 at }
-{
-    let to = operand_at(limits, bytes, at)?;
-    let first = operand_at(limits, bytes, at + 2)?;
-    let second = operand_at(limits, bytes, at + 2 + 2)?;
-    let constant = eight_at(bytes, at + 2 + 2 + 2)?;
-    Ok((
-        Record::Operator {
-            kind,
-            to,
-            first,
-            second: Some(second),
-            constant: Some(constant),
-        },
-        at + 2 + 2 + 2 + 8,
+        place.at,
     ))
 }
 
 // An operator of any of its four maps.
-pub fn operator<'a>(limits: &Limits, bytes: &'a [u8], kind: u8, map: u8, at: usize) -> Found<'a>
+pub fn operator<'a>(place: Place<'_, 'a>, kind: u8, map: u8) -> Found<'a>
     requires { among operator_maps map ≡ true }
-    ensures { record_read result ≡ fields_at limits.now bytes.now false kind map at }
+    ensures { record_read result ≡ body_at place.entry false kind map }
 {
-    match map {
-        0x03 => of_one(limits, bytes, kind, at),
-        0x07 => of_two(limits, bytes, kind, at),
-        0x13 => of_one_and_constant(limits, bytes, kind, at),
-        _ => of_two_and_constant(limits, bytes, kind, at),
-    }
+    with_parts(place, kind, map / 0x04 % 2 == 1, map / 0x10 % 2 == 1)
 }

@@ -1,7 +1,7 @@
-use kept::Refusal;
+use session::{Merge, Refusal};
 
 // A call of a session with its arguments.
-#[derive(Clone, Copy)]
+#[derive(Clone, Copy, Debug, PartialEq, Eq)]
 pub enum Call {
     Note(usize, usize),
     Mark(usize),
@@ -12,18 +12,20 @@ pub enum Call {
     Colour,
 }
 
-// What a call answers. A refusal is known by its number.
-#[derive(Clone, Copy)]
-pub enum Answer {
-    Refused(u8),
+// What a call answers that is granted.
+#[derive(Clone, Copy, Debug, PartialEq, Eq)]
+pub enum Granted {
+    // the number of a move
     Noted(usize),
-    Granted,
-    Together,
-    Apart,
-    Merged,
+    // what became of a move
+    Decided(Merge),
+    Done,
 }
 
+pub type Answer = Result<Granted, Refusal>;
+
 // A graph that is handed back, and whether the calls were made.
+#[derive(Drop)]
 pub struct Replayed<G> {
     pub graph: G,
     pub answer: Result<(), Refusal>,

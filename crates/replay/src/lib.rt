@@ -4,5 +4,6 @@
 mod calls;
 mod running;
 
-pub use calls::{Answer, Call, Replayed};
+pub use calls::{Answer, Call, Granted, Replayed};
 pub use running::replay;
+pub use session::{Merge, Refusal};

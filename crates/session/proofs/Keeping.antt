@@ -1,10 +1,16 @@
 -- What each call of a session keeps. Assumes nothing.
-use Rattle.session_laws.specs.Calls.{Call}
-use Rattle.session_laws.specs.Steps.{KeptByCall}
+use Rattle.std.proofs.Common.{◌≡◌}
+use Rattle.session_laws.specs.Calls.{Call, Outcome}
 use Rattle.session_laws.proofs.Runs.{keeps}
-use Rattle.kept.specs.Kept.{base_of, state_of}
-use Rattle.kept.specs.declared.kept.Kept.{Kept}
+use Rattle.kept.specs.Kept.{base_of, state_of, ByRules}
 use Rattle.kept.proofs.Facts.{base_sound, state_sound}
+use Rattle.session.specs.Calls.{Calls}
+use Rattle.session.specs.declared.session.Session.{Session}
 
-pub law_of : (k : Kept) (c : Call) → KeptByCall (base_of k) (state_of k) c
-law_of k c = keeps (base_of k) (base_sound k) (state_of k) (state_sound k) c
+pub calls : {G : Type 0} (before after : Session G) (c : Call) (said : Outcome) → after.graph ≡ before.graph → ByRules before.kept after.kept c said →
+    Calls before after c said
+calls before after c said graph rules = record {
+  graph = graph;
+  rules = rules;
+  law = keeps (base_of before.kept) (base_sound before.kept) (state_of before.kept) (state_sound before.kept) c;
+}

@@ -6,16 +6,17 @@ use Rattle.std.proofs.lemmas.Bool.Decides.{nat_tests}
 use Rattle.std.proofs.lemmas.List.{get_or-set_same, get_or-set_other, get_or_past}
 use Rattle.graph.specs.Shape.{Shape, Lawful}
 use Rattle.graph.specs.Views.{clique_view, class_view}
-use Rattle.graph.specs.declared.class.Class.{Class}
-use Rattle.graph.specs.declared.class.Class.TheVariants.{Zero, One}
+use Rattle.classes.specs.declared.class.Class.{Class}
+use Rattle.classes.specs.declared.class.Class.TheVariants.{Zero, One}
 use Rattle.board.specs.Boards.{opened_graph}
 use Rattle.board.specs.declared.board.Board.{Board}
 use Rattle.session_laws.specs.Bank.{first_of, is_register, classes_under}
 use Rattle.session_laws.specs.Base.{SoundBase, base_of}
 use Rattle.session_laws.proofs.Openings.{base_sound}
 use Rattle.standing.specs.Sound.{base_over}
-use Rattle.views.specs.declared.class.ClassView.{ClassView}
-use Rattle.views.specs.declared.clique.CliqueView.{CliqueView}
+use Rattle.views.specs.declared.class.ClassLook.{ClassLook}
+use Rattle.views.specs.declared.clique.CliqueLook.{CliqueLook}
+use Rattle.views.specs.declared.view.View.{View}
 use Rattle.views.specs.Tables.{flag, class_at, class_by, clique_by}
 use Rattle.session.specs.Banks.{bank_of, opening_over}
 use Rattle.session.specs.declared.bank.Bank.{Bank}
@@ -83,11 +84,11 @@ past_classes b classes long w h =
     rw e past
 
 -- what the two views show of a graph
-pub view_shape : {X : Type 0} (m : X → Shape) (outer : CliqueView (ClassView X)) (inner : ClassView X) (graph : X) (under : List (Option Class))
-    (class chosen : Class) (flags : List Bool) → outer.below ≡ inner → outer.fixed ≡ flags → inner.below ≡ graph → inner.classes ≡ under →
-    inner.chosen ≡ class → class ≡ chosen →
-    clique_by outer.fixed (class_by outer.below.classes outer.below.chosen (m outer.below.below)) ≡ clique_by flags (class_by under chosen (m graph))
+pub view_shape : {X : Type 0} (m : X → Shape) (outer : View CliqueLook (View ClassLook X)) (inner : View ClassLook X) (graph : X) (under : List (Option Class))
+    (class chosen : Class) (flags : List Bool) → outer.below ≡ inner → outer.look.fixed ≡ flags → inner.below ≡ graph → inner.look.classes ≡ under →
+    inner.look.chosen ≡ class → class ≡ chosen →
+    clique_by outer.look.fixed (class_by outer.below.look.classes outer.below.look.chosen (m outer.below.below)) ≡ clique_by flags (class_by under chosen (m graph))
 view_shape {X} m outer inner graph under class chosen flags eo ef eg eu ec ek =
-    ap₂ clique_by ef (ap (λ (x : ClassView X). class_by x.classes x.chosen (m x.below)) eo ∙
-    (ap (λ (u : List (Option Class)). class_by u inner.chosen (m inner.below)) eu ∙
+    ap₂ clique_by ef (ap (λ (x : View ClassLook X). class_by x.look.classes x.look.chosen (m x.below)) eo ∙
+    (ap (λ (u : List (Option Class)). class_by u inner.look.chosen (m inner.below)) eu ∙
     (ap (λ (k : Class). class_by under k (m inner.below)) (ec ∙ ek) ∙ ap (λ (x : X). class_by under chosen (m x)) eg)))

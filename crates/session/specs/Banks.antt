@@ -1,7 +1,7 @@
 -- What a bank means, and what is opened. Assumes nothing.
 use Rattle.std.specs.Prelude.{◌≡◌, ℕ, false, ◌&&◌, List, Ok, Err, Option, Result, nat_le}
 use Rattle.graph.specs.Shape.{Shape}
-use Rattle.graph.specs.declared.class.Class.{Class}
+use Rattle.classes.specs.declared.class.Class.{Class}
 use Rattle.session_laws.specs.Bank.{Bank}
 use Rattle.session_laws.specs.Base.{Opening}
 use Rattle.views.specs.Tables.{class_at}

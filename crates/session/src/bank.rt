@@ -6,7 +6,7 @@ mod checking;
 mod tables;
 
 // The registers that a session may give out: a class and how many of it, from 1 to 16.
-#[derive(Clone, Copy)]
+#[derive(Clone, Copy, Debug, PartialEq, Eq)]
 pub struct Bank {
     class: Class,
     registers: usize,
@@ -14,5 +14,5 @@ pub struct Bank {
 }
 
 // A bank with no register or with too many.
-#[derive(Clone, Copy)]
-pub struct BadBank {}
+#[derive(Clone, Copy, Debug, PartialEq, Eq)]
+pub struct BadBank;

@@ -6,4 +6,5 @@ mod session;
 mod start;
 
 pub use bank::{BadBank, Bank};
+pub use kept::{Merge, Refusal};
 pub use session::Session;

@@ -1,16 +1,16 @@
 -- A granted colour is sound, and complete where each removed group had a register to spare. Assumes nothing.
-use Rattle.std.proofs.Common.{◌≡◌, ℕ, true, false, sym, refl, ap, ◌∙◌, inl, inr}
-use Rattle.std.proofs.lemmas.Bool.{cases_Bool, and_parts, and_from, both_ways, not_from_false}
+use Rattle.std.proofs.Common.{◌≡◌, ℕ, Bool, true, false, sym, refl, ap, ◌∙◌, inl, inr}
+use Rattle.std.proofs.lemmas.Bool.{cases_Bool, and_parts, and_from, both_ways, not_from_false, false_from_ne_true, true_from_ne_false}
 use Rattle.graph.specs.Shape.{Shape, Lawful}
 use Rattle.session_laws.specs.Bank.{among}
 use Rattle.session_laws.specs.Base.{Base, SoundBase, fixed}
-use Rattle.session_laws.specs.State.{State, listed, merged_graph}
+use Rattle.session_laws.specs.State.{State, listed, merged_graph, is_loose}
 use Rattle.session_laws.specs.Colouring.{none, own_number, group_register, register_of}
 use Rattle.session_laws.specs.Grounds.{ColouredOn}
-use Rattle.session_laws.specs.Invariants.{SoundState, AllLight}
+use Rattle.session_laws.specs.Invariants.{SoundState, SpareList, AllLight}
 use Rattle.session_laws.specs.Steps.{SoundRegisters, AllRegisters}
 use Rattle.session_laws.proofs.Cores.{far_stands, two_ends}
-use Rattle.session_laws.proofs.Painting.{Differ, Registers, painted_differs, painted_kept, painted_registers, painted_all}
+use Rattle.session_laws.proofs.Painting.{Differ, Registers, painted_differs, painted_kept, painted_registers, light_spare, painted_some}
 use Rattle.session_laws.proofs.Standing.{Name, stands_from, merged_lawful, meet_from}
 
 pub own_fixed : (b : Base) (v : ℕ) → fixed b v ≡ true → own_number b v ≡ v
@@ -50,13 +50,6 @@ pub group_kept : (b : Base) (s : State) (v : ℕ) → listed s.removed v ≡ fal
 unfolding group_register
 group_kept b s v h = painted_kept b (merged_graph b s) (own_number b) s.removed v h
 
-group_removed : (b : Base) → SoundBase b → (s : State) → SoundState b s → AllLight b s → (v : ℕ) → listed s.removed v ≡ true →
-    among b.first b.registers (group_register b s v) ≡ true
-unfolding group_register
-group_removed b sb s ss l v h =
-    painted_all b sb (merged_graph b s) (own_number b) s.removed ss.removed_once l
-    (λ w hw. own_loose b w (ss.removed_loose w hw)) v h
-
 pub register_in : (b : Base) (s : State) (v : ℕ) → b.graph.stands v ≡ true → register_of b s v ≡ group_register b s (s.table v)
 register_in b s v h = rw h
 
@@ -67,17 +60,12 @@ pub name_of : (b : Base) (s : State) → SoundState b s → (v : ℕ) → b.grap
 name_of b s ss v h = record { is_vertex = ss.inside v h; is_own = ss.settles v }
 
 fixed_kept : (b : Base) (s : State) → SoundState b s → (v : ℕ) → fixed b v ≡ true → listed s.removed v ≡ false
-fixed_kept b s ss v h = elim (cases_Bool (listed s.removed v)) [
-  | inl e ↦ absurd (both_ways _ (ss.removed_loose v e) h)
-  | inr e ↦ e
-]
+fixed_kept b s ss v h = false_from_ne_true (listed s.removed v) (λ e. both_ways _ (ss.removed_loose v e) h)
 
 -- numbers of one group stand together
 one_standing : (b : Base) (s : State) → SoundState b s → (u v : ℕ) → s.table u ≡ s.table v → b.graph.stands u ≡ true → b.graph.stands v ≡ true
-one_standing b s ss u v e hu = elim (cases_Bool (b.graph.stands v)) [
-  | inl hv ↦ hv
-  | inr hv ↦ absurd (both_ways _ hv (rw (e ∙ ss.outside v hv) at (ss.inside u hu)))
-]
+one_standing b s ss u v e hu =
+    true_from_ne_false (b.graph.stands v) (λ hv. both_ways _ hv (rw (e ∙ ss.outside v hv) at (ss.inside u hu)))
 
 of_registers : (b : Base) → SoundBase b → (s : State) → SoundState b s → SoundRegisters b s (register_of b s)
 of_registers b sb s ss = record {
@@ -118,15 +106,21 @@ pub colour_sound : (b : Base) → SoundBase b → (s : State) → SoundState b s
     SoundRegisters b s register
 colour_sound b sb s ss register g = rw g.by_rule (of_registers b sb s ss)
 
+-- once no loose vertex stands, the name of a group that passes, and had then a register to spare, has one
+pub name_served : (passes : ℕ → Bool) (b : Base) → SoundBase b → (s : State) → SoundState b s →
+    SpareList passes b.registers (merged_graph b s) s.removed → ((v : ℕ) → is_loose b s v ≡ true → ⊥) →
+    (t : ℕ) → Name s.table b.graph t → passes t ≡ true → among b.first b.registers (group_register b s t) ≡ true
+unfolding group_register
+name_served passes b sb s ss l none t n p = elim (cases_Bool (listed s.removed t)) [
+  | inl h ↦ painted_some passes b sb (merged_graph b s) (own_number b) s.removed ss.removed_once l
+      (λ w hw. own_loose b w (ss.removed_loose w hw)) t h p
+  | inr h ↦ elim (cases_Bool (fixed b t)) [
+    | inl f ↦ rw (group_kept b s t h ∙ own_fixed b t f) (fixed_register b t f)
+    | inr f ↦ absurd (none t (and_from _ _ (stands_from b s t (record { name = n; is_kept = h })) (not_from_false _ f)))
+  ]
+]
+
 pub colour_complete : (b : Base) → SoundBase b → (s : State) → SoundState b s → AllLight b s → (register : ℕ → ℕ) → ColouredOn b s register →
     AllRegisters b register
-colour_complete b sb s ss l register g = rw g.by_rule (λ v hv. rw (register_in b s v hv) (named (s.table v) (name_of b s ss v hv)))
-  where
-    named : (t : ℕ) → Name s.table b.graph t → among b.first b.registers (group_register b s t) ≡ true
-    named t n = elim (cases_Bool (listed s.removed t)) [
-      | inl h ↦ group_removed b sb s ss l t h
-      | inr h ↦ elim (cases_Bool (fixed b t)) [
-        | inl f ↦ rw (group_kept b s t h ∙ own_fixed b t f) (fixed_register b t f)
-        | inr f ↦ absurd (g.none_loose t (and_from _ _ (stands_from b s t (record { name = n; is_kept = h })) (not_from_false _ f)))
-      ]
-    ]
+colour_complete b sb s ss l register g = rw g.by_rule (λ v hv. rw (register_in b s v hv) (name_served (λ _. true) b sb s ss
+    (light_spare (λ _. true) b.registers (merged_graph b s) s.removed l) g.none_loose (s.table v) (name_of b s ss v hv) refl))

@@ -1,11 +1,11 @@
 -- A graph can be emptied exactly when it has no core. Assumes nothing.
 use Rattle.std.proofs.Common.{◌≡◌, ℕ, zero, suc, ◌+◌, ◌<◌, ◌≤◌, Bool, true, false, cond, ◌&&◌, ◌||◌, eqb, ltb, ◌⊎◌, sym, ap, ◌∙◌, inl, inr, arith}
-use Rattle.std.proofs.lemmas.Bool.{cases_Bool, and_parts, and_from, and_cases, eq-eqb, ne_eqb, or_cases, or_left, or_right, not_from_false, both_ways, cases_eq, lt-ltb, ltb-true, ltb-false}
+use Rattle.std.proofs.lemmas.Bool.{cases_Bool, and_parts, and_from, eq-eqb, ne_eqb, or_cases, or_left, or_right, not_from_false, both_ways, cases_eq, lt-ltb, ltb-true, ltb-false}
 use Rattle.graph.specs.Counting.{count}
 use Rattle.graph.specs.Shape.{Shape, Lawful}
 use Rattle.session_laws.specs.Emptying.{loose, still_joined, CanBeEmptied}
 use Rattle.session_laws.specs.Peeling.{bound_in, light_in}
-use Rattle.session_laws.proofs.Counts.{Found, Nowhere, find, count_mono, but, but_from, but_parts, count_less, least}
+use Rattle.session_laws.proofs.Counts.{Found, Nowhere, find, count_mono, but, but_from, but_parts, count_less, least, second_fails}
 
 -- A core is a set of loose vertices, not empty, in which each is joined to k or more that are fixed or in the set.
 pub record Core (fixed : ℕ → Bool) (k : ℕ) (s : Shape) (c : ℕ → Bool) : Type 0 where
@@ -144,10 +144,7 @@ pub all_heavy : (fixed : ℕ → Bool) (k : ℕ) (s : Shape) → Lawful s → (c
 all_heavy fixed k s l c inc found none = record {
   someone = (found.0, found.2);
   within = inc;
-  heavy = λ v hv. elim (and_cases (c v) _ (none v (in_loose fixed s l v (inc v hv)))) [
-    | inl no-c ↦ absurd (both_ways _ no-c hv)
-    | inr no-l ↦ ltb-false _ _ no-l
-  ];
+  heavy = λ v hv. ltb-false _ _ (second_fails (c v) _ (none v (in_loose fixed s l v (inc v hv))) hv);
 }
 
 peel : (fixed : ℕ → Bool) (k : ℕ) (s : Shape) → Lawful s → NoCore fixed k s → (fuel : ℕ) (c : ℕ → Bool) →

@@ -1,7 +1,15 @@
 -- Comparing counts, and looking for a number that passes. Assumes nothing.
 use Rattle.std.proofs.Common.{◌≡◌, ℕ, zero, suc, ◌+◌, ◌<◌, ◌≤◌, Bool, true, false, cond, not, ◌&&◌, eqb, ◌⊎◌, sym, refl, ap, ◌∙◌, inl, inr, arith}
-use Rattle.std.proofs.lemmas.Bool.{cases_Bool, cond_both, and_parts, eqb-false, eq-eqb, ne_eqb, or_cases, or_parts, true≢false, not-true, both_ways, cases_eq, cases_lt}
+use Rattle.std.proofs.lemmas.Bool.{cases_Bool, cond_both, and_parts, eqb-false, eq-eqb, ne_eqb, not-true, both_ways, cases_eq, cases_lt, false_from_ne_true, and_cases}
 use Rattle.graph.specs.Counting.{count, any}
+use Rattle.graph.proofs.Counting.{any_witness, any_from, count_none}
+
+-- where not both pass, and the first does, the second fails
+pub second_fails : (x y : Bool) → (x && y) ≡ false → x ≡ true → y ≡ false
+second_fails x y e h = elim (and_cases x y e) [
+  | inl no-x ↦ absurd (both_ways x no-x h)
+  | inr no-y ↦ no-y
+]
 
 -- what passes below n
 abbrev pub Found : (ℕ → Bool) → ℕ → Type 0
@@ -10,41 +18,16 @@ Found p n = (v : ℕ) × (v < n) × (p v ≡ true)
 abbrev pub Nowhere : (ℕ → Bool) → ℕ → Type 0
 Nowhere p n = (v : ℕ) → v < n → p v ≡ false
 
-nowhere_more : (p : ℕ → Bool) (n : ℕ) → Nowhere p n → p n ≡ false → Nowhere p (suc n)
-nowhere_more p n none e v h = elim (cases_eq v n) [
-  | inl same ↦ rw same e
-  | inr other ↦ none v (omega arith)
-]
-
-found_more : (p : ℕ → Bool) (n : ℕ) → Found p n → Found p (suc n)
-found_more p n f = (f.0, (let h = f.1 in omega arith), f.2)
-
-pub find : (p : ℕ → Bool) (n : ℕ) → Found p n ⊎ Nowhere p n
-find p zero = inr (λ v h. absurd (let k : v < 0 = h in omega arith))
-find p (suc n) = elim (find p n) [
-  | inl f ↦ inl (found_more p n f)
-  | inr none ↦ elim (cases_Bool (p n)) [
-    | inl e ↦ inl (n, omega arith, e)
-    | inr e ↦ inr (nowhere_more p n none e)
-  ]
-]
-
 pub any_found : (p : ℕ → Bool) (n : ℕ) → any p n ≡ true → Found p n
-any_found p zero e = absurd (true≢false (sym e))
-any_found p (suc n) e = elim (or_cases (p n) (any p n) e) [
-  | inl here ↦ (n, omega arith, here)
-  | inr rest ↦ found_more p n (any_found p n rest)
-]
+any_found p n e = let w = any_witness p n e in (w.0, w.1.0, w.1.1)
 
 pub any_nowhere : (p : ℕ → Bool) (n : ℕ) → any p n ≡ false → Nowhere p n
-any_nowhere p zero e = λ v h. absurd (let k : v < 0 = h in omega arith)
-any_nowhere p (suc n) e =
-    let parts = or_parts (p n) (any p n) e in nowhere_more p n (any_nowhere p n parts.1) parts.0
+any_nowhere p n e = λ v h. false_from_ne_true (p v) (λ t. both_ways (any p n) e (any_from p n v h t))
 
-pub any_from : (p : ℕ → Bool) (n v : ℕ) → v < n → p v ≡ true → any p n ≡ true
-any_from p n v h e = elim (cases_Bool (any p n)) [
-  | inl t ↦ t
-  | inr f ↦ absurd (both_ways (p v) (any_nowhere p n f v h) e)
+pub find : (p : ℕ → Bool) (n : ℕ) → Found p n ⊎ Nowhere p n
+find p n = elim (cases_Bool (any p n)) [
+  | inl some ↦ inl (any_found p n some)
+  | inr none ↦ inr (any_nowhere p n none)
 ]
 
 pub count_mono : (p q : ℕ → Bool) (n : ℕ) → ((v : ℕ) → v < n → p v ≡ true → q v ≡ true) → count p n ≤ count q n
@@ -54,13 +37,6 @@ count_mono p q (suc n) f =
     cond_both {A = ℕ} (p n) 1 0 (λ x. count p n + x ≤ count q n + cond (q n) 1 0)
     (λ e. let t : q n ≡ true = f n (omega arith) e in rw t (omega arith))
     (λ e. omega arith)
-
-pub count_none : (p : ℕ → Bool) (n : ℕ) → Nowhere p n → count p n ≡ 0
-count_none p zero f = refl
-count_none p (suc n) f =
-    let before : count p n ≡ 0 = count_none p n (λ v h. f v (omega arith)) in
-    let here : p n ≡ false = f n (omega arith) in
-    rw (here, before)
 
 -- p, but for the number x
 abbrev pub but : (ℕ → Bool) → ℕ → ℕ → Bool
@@ -111,10 +87,8 @@ count_less p x (suc n) h e = elim (cases_eq n x) [
 pub image : (f : ℕ → ℕ) (p : ℕ → Bool) (n m : ℕ) (q : ℕ → Bool) →
     ((r : ℕ) → r < m → q r ≡ true → (w : ℕ) × (w < n) × (p w ≡ true) × (f w ≡ r)) → count q m ≤ count p n
 image f p zero m q g =
-    let none : count q m ≡ 0 = count_none q m (λ r h. elim (cases_Bool (q r)) [
-      | inl e ↦ absurd (let w = g r h e in let k : w.0 < 0 = w.1 in omega arith)
-      | inr e ↦ e
-    ]) in
+    let none : count q m ≡ 0 = count_none q m (λ r h.
+    false_from_ne_true (q r) (λ e. let w = g r h e in let k : w.0 < 0 = w.1 in omega arith)) in
     omega arith
 image f p (suc n) m q g = elim (cases_Bool (p n)) [
   | inl e ↦
@@ -159,6 +133,9 @@ least p f (suc n) found = elim (find p n) [
       ]
   | inr none ↦ elim (cases_Bool (p n)) [
     | inl e ↦ (n, omega arith, e, least_among p f n n (λ w h t. absurd (both_ways (p w) (none w h) t)) (λ _. omega arith))
-    | inr e ↦ absurd (both_ways (p found.0) (nowhere_more p n none e found.0 found.1) found.2)
+    | inr e ↦ absurd (elim (cases_eq found.0 n) [
+      | inl same ↦ both_ways (p n) e (rw same at found.2)
+      | inr other ↦ both_ways (p found.0) (none found.0 (let k : found.0 < suc n = found.1 in omega arith)) found.2
+    ])
   ]
 ]

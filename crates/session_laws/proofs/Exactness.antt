@@ -1,6 +1,6 @@
 -- With its grounds there, each call is granted. Assumes nothing.
-use Rattle.std.proofs.Common.{◌≡◌, ℕ, ◌≤◌, Bool, true, false, not, ◌&&◌, ◌||◌, eqb, ltb, length, sym, ap, ◌∙◌, inl, inr}
-use Rattle.std.proofs.lemmas.Bool.{cases_Bool, cond-true, cond-false, and_parts, and_from, or_from, lt-ltb, le-ltb, eq-eqb, ne_eqb, both_ways, not_from_false}
+use Rattle.std.proofs.Common.{◌≡◌, ℕ, ◌≤◌, Bool, true, false, not, ◌&&◌, ◌||◌, eqb, ltb, length, sym, ap, ◌∙◌}
+use Rattle.std.proofs.lemmas.Bool.{false_from_ne_true, cond-true, cond-false, and_parts, and_from, or_from, lt-ltb, le-ltb, eq-eqb, ne_eqb, both_ways, not_from_false}
 use Rattle.graph.specs.Counting.{any}
 use Rattle.session_laws.specs.Base.{Base, SoundBase, fixed}
 use Rattle.session_laws.specs.State.{State, standing_graph, is_loose, move_at, has_pending, holds_temporary}
@@ -14,11 +14,8 @@ use Rattle.session_laws.proofs.Counts.{any_found}
 use Rattle.session_laws.proofs.Standing.{standing_lawful}
 
 -- where nothing passes, none does
-none_passes : (p : ℕ → Bool) (n : ℕ) → ((v : ℕ) → p v ≡ true → ⊥) → any p n ≡ false
-none_passes p n none = elim (cases_Bool (any p n)) [
-  | inl e ↦ absurd (let f = any_found p n e in none f.0 f.2)
-  | inr e ↦ e
-]
+pub none_passes : (p : ℕ → Bool) (n : ℕ) → ((v : ℕ) → p v ≡ true → ⊥) → any p n ≡ false
+none_passes p n none = false_from_ne_true (any p n) (λ e. let f = any_found p n e in none f.0 f.2)
 
 at_standing : (b : Base) → SoundBase b → (s : State) (v : ℕ) (answer : Outcome) → (standing_graph b s).stands v ≡ true → at_vertex b s v answer ≡ answer
 at_standing b sb s v answer h =

@@ -1,15 +1,15 @@
 -- Every outcome has its grounds. Assumes nothing.
-use Rattle.std.proofs.Common.{◌≡◌, ℕ, ◌≤◌, true, false, cond, not, ◌&&◌, ◌||◌, eqb, ltb, length, refl, inl, inr}
-use Rattle.std.proofs.lemmas.Bool.{cond_both, and_parts, and_from, and_cases, or_parts, ltb-true, ltb-false, eqb-true, eqb-false, not-true, both_ways}
+use Rattle.std.proofs.Common.{◌≡◌, ℕ, true, cond, not, ◌&&◌, ◌||◌, eqb, ltb, length, refl}
+use Rattle.std.proofs.lemmas.Bool.{cond_both, and_parts, and_from, or_parts, ltb-true, ltb-false, eqb-true, eqb-false, not-true, both_ways}
 use Rattle.graph.specs.Counting.{any}
 use Rattle.session_laws.specs.Base.{Base, SoundBase, fixed}
-use Rattle.session_laws.specs.State.{State, standing_graph, degree_in, is_loose, move_at, has_pending, holds_temporary}
+use Rattle.session_laws.specs.State.{State, standing_graph, is_loose, move_at, has_pending, holds_temporary}
 use Rattle.session_laws.specs.Tests.{may_merge}
 use Rattle.session_laws.specs.Calls.{Call, Outcome, note, mark, simplify, freeze, push, merge, colour, refused, noted, marked, simplified, frozen, pushed, together, apart, merged, coloured}
 use Rattle.session_laws.specs.Colouring.{register_of}
 use Rattle.session_laws.specs.Outcomes.{outcome, some_loose, at_vertex, low_degree, note_outcome, settled}
 use Rattle.session_laws.specs.Grounds.{GrantedOn, OpenMove}
-use Rattle.session_laws.proofs.Counts.{any_nowhere}
+use Rattle.session_laws.proofs.Counts.{any_nowhere, second_fails}
 use Rattle.session_laws.proofs.Standing.{loose_inside}
 
 at_vertex_grounds : (b : Base) (s : State) (v : ℕ) (answer : Outcome) →
@@ -82,17 +82,11 @@ grounds b sb s (push v) = at_vertex_grounds b s v _ (λ stands.
     let q = and_parts (not (fixed b v)) (not (some_loose b s (low_degree b s))) p.0 in
     record {
       stays_loose = and_from _ _ stands q.0;
-      all_heavy = λ w h. heavy w h
-          (any_nowhere (λ z. is_loose b s z && low_degree b s z) b.graph.size (not-true _ q.1) w (loose_inside b sb s w h));
+      all_heavy = λ w h. ltb-false _ _ (second_fails (is_loose b s w) (low_degree b s w)
+          (any_nowhere (λ z. is_loose b s z && low_degree b s z) b.graph.size (not-true _ q.1) w (loose_inside b sb s w h)) h);
       no_temporary = not-true _ p.1;
     })
     (λ _. tt))
-  where
-    heavy : (w : ℕ) → is_loose b s w ≡ true → (is_loose b s w && low_degree b s w) ≡ false → b.registers ≤ degree_in b s w
-    heavy w h e = elim (and_cases (is_loose b s w) (low_degree b s w) e) [
-      | inl x ↦ absurd (both_ways _ x h)
-      | inr x ↦ ltb-false _ _ x
-    ]
 grounds b sb s (merge m marks) =
     cond_both (ltb marks 512) (refused 2) _ (GrantedOn b s) (λ _. tt)
     (λ _. cond_both (ltb m (length s.moves)) _ (refused 13) (GrantedOn b s)

@@ -1,10 +1,10 @@
 -- Which moves are pending. Assumes nothing.
 use Rattle.std.proofs.Common.{◌≡◌, ℕ, ◌+◌, ◌<◌, true, false, cond, ◌||◌, eqb, ◌⊎◌, List, [], ◌∷◌, ◌++◌, length, get_or, sym, ap, ◌∙◌, inl, inr, arith}
-use Rattle.std.proofs.lemmas.Bool.{cases_Bool, cases_eq, cases_lt, and_cases, or_parts, eqb-false, both_ways, false≢true}
+use Rattle.std.proofs.lemmas.Bool.{cases_Bool, cases_eq, cases_lt, or_parts, eqb-false, false≢true}
 use Rattle.std.proofs.lemmas.List.{get_or-set_same, get_or-set_other, get_or_past, get_or-map, get_or_append_left, get_or_push, length-map, length_push}
 use Rattle.session_laws.specs.State.{Move, State, no_move, move_at, waits, has_pending}
 use Rattle.session_laws.specs.Runs.{closed, closing, closing_all}
-use Rattle.session_laws.proofs.Counts.{any_nowhere}
+use Rattle.session_laws.proofs.Counts.{any_nowhere, second_fails}
 
 pub pending_noted : (ms : List Move) (m : ℕ) → (get_or ms m no_move).pending ≡ true → m < length ms
 pending_noted ms m h = elim (cases_lt m (length ms)) [
@@ -52,10 +52,9 @@ closing_all_pending s v i h =
 -- a pending move that does not wait has its ends in other groups
 pub ends_elsewhere : (table : ℕ → ℕ) (v : ℕ) (m : Move) → m.pending ≡ true → waits table v m ≡ false →
     (table m.one ≡ v → ⊥) × (table m.other ≡ v → ⊥)
-ends_elsewhere table v m h w = elim (and_cases m.pending (eqb (table m.one) v || eqb (table m.other) v) w) [
-  | inl x ↦ absurd (both_ways _ x h)
-  | inr x ↦ let p = or_parts (eqb (table m.one) v) (eqb (table m.other) v) x in (eqb-false _ _ p.0, eqb-false _ _ p.1)
-]
+ends_elsewhere table v m h w =
+    let p = or_parts (eqb (table m.one) v) (eqb (table m.other) v) (second_fails m.pending (eqb (table m.one) v || eqb (table m.other) v) w h) in
+    (eqb-false _ _ p.0, eqb-false _ _ p.1)
 
 -- without a pending move of v, none waits
 pub none_waits : (s : State) (v m : ℕ) → has_pending s v ≡ false → m < length s.moves → waits s.table v (move_at s m) ≡ false

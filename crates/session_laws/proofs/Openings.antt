@@ -1,10 +1,10 @@
 -- The base of an opening. Assumes nothing.
-use Rattle.std.proofs.Common.{◌≡◌, ℕ, ◌+◌, ◌<◌, ◌≤◌, true, ltb, None, Option, inl, inr, arith}
-use Rattle.std.proofs.lemmas.Bool.{cases_Bool, and_parts, and_from, or_left, or_right, lt-ltb, ne_eqb, not_from_false, false≢true}
+use Rattle.std.proofs.Common.{◌≡◌, ℕ, ◌+◌, ◌<◌, ◌≤◌, true, ltb, None, Option, arith}
+use Rattle.std.proofs.lemmas.Bool.{and_parts, and_from, or_left, or_right, lt-ltb, ne_eqb, not_from_false, false≢true, true_from_ne_false}
 use Rattle.graph.specs.Shape.{Lawful}
 use Rattle.graph.specs.Views.{is_chosen}
-use Rattle.graph.specs.declared.class.Class.{Class}
-use Rattle.graph.specs.declared.class.Class.TheVariants.{Zero, One}
+use Rattle.classes.specs.declared.class.Class.{Class}
+use Rattle.classes.specs.declared.class.Class.TheVariants.{Zero, One}
 use Rattle.graph.proofs.Keeping.{class_is_view}
 use Rattle.graph.proofs.Clique.{clique_is_view}
 use Rattle.session_laws.specs.Bank.{Bank, Usable, first_of, is_register, classes_under}
@@ -17,13 +17,10 @@ registers_low One k h = omega arith
 -- below 32 what is of the bank's class is a register of it
 chosen_low : (k : Bank) (classes : ℕ → Option Class) (v : ℕ) → v < 32 → is_chosen k.class (classes_under k classes v) ≡ true →
     is_register k v ≡ true
-chosen_low k classes v h e = elim (cases_Bool (is_register k v)) [
-  | inl y ↦ y
-  | inr n ↦
-      let low : ltb v 32 ≡ true = lt-ltb v 32 h in
-      let none : classes_under k classes v ≡ None = rw (low, n) in
-      absurd (false≢true (rw none at e))
-]
+chosen_low k classes v h e = true_from_ne_false (is_register k v) (λ n.
+    let low : ltb v 32 ≡ true = lt-ltb v 32 h in
+    let none : classes_under k classes v ≡ None = rw (low, n) in
+    false≢true (rw none at e))
 
 pub base_sound : (o : Opening) → Lawful o.given → Usable o.bank → SoundBase (base_of o)
 base_sound o l usable = record {

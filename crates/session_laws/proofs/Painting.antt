@@ -1,14 +1,15 @@
 -- Giving one vertex after the other the lowest register that is free for it. Assumes nothing.
-use Rattle.std.proofs.Common.{◌≡◌, ℕ, zero, suc, ◌+◌, ◌-◌, ◌<◌, ◌≤◌, Bool, true, false, cond, not, ◌&&◌, eqb, leb, ◌⊎◌, List, [], ◌∷◌, Some, None, Option, sym, refl, ◌∙◌, inl, inr, arith}
-use Rattle.std.proofs.lemmas.Bool.{cases_Bool, cases_eq, and_parts, and_from, or_cases, or_parts, or_right, eqb-true, eq-eqb, ne_eqb, le-leb, lt-ltb, leb-true, both_ways, not-true, not-false, not_from_false}
+use Rattle.std.proofs.Common.{◌≡◌, ℕ, ◌+◌, ◌-◌, ◌<◌, ◌≤◌, Bool, true, false, cond, not, ◌&&◌, eqb, leb, ◌⊎◌, List, [], ◌∷◌, Some, None, Option, sym, refl, ◌∙◌, inl, inr, arith}
+use Rattle.std.proofs.lemmas.Bool.{cases_Bool, cases_eq, and_parts, and_from, or_cases, or_parts, or_right, eqb-true, eq-eqb, ne_eqb, le-leb, lt-ltb, leb-true, both_ways, not-true, not-false, not_from_false, false_from_ne_true}
 use Rattle.graph.specs.Counting.{count, first}
+use Rattle.graph.proofs.Counting.{any_from, count_whole, first_found, first_missed}
 use Rattle.graph.specs.Shape.{Shape, Lawful}
 use Rattle.session_laws.specs.Bank.{among}
 use Rattle.session_laws.specs.Base.{Base, SoundBase}
 use Rattle.session_laws.specs.State.{listed}
-use Rattle.session_laws.specs.Invariants.{Distinct, LightList}
+use Rattle.session_laws.specs.Invariants.{Distinct, LightList, SpareList}
 use Rattle.session_laws.specs.Colouring.{none, or_none, taken, lowest_free, giving, painted}
-use Rattle.session_laws.proofs.Counts.{Nowhere, any_found, any_from, image}
+use Rattle.session_laws.proofs.Counts.{Nowhere, any_found, image}
 use Rattle.session_laws.proofs.Cores.{two_ends, far_inside}
 
 -- the first of k numbers that passes, or none of them does
@@ -17,18 +18,11 @@ First p from k None = (i : ℕ) → from ≤ i → i < from + k → p i ≡ fals
 First p from k (Some r) = (from ≤ r) × (r < from + k) × (p r ≡ true)
 
 pub first_is : (p : ℕ → Bool) (from k : ℕ) → First p from k (first p from k)
-first_is p from zero = λ i lo hi. absurd (omega arith)
-first_is p from (suc k) = elim (cases_Bool (p from)) [
-  | inl e ↦ rw e (omega arith, omega arith, e)
-  | inr e ↦ rw e (later (first p (suc from) k) (first_is p (suc from) k) e)
-]
+first_is p from k = go (first p from k) refl
   where
-    later : (o : Option ℕ) → First p (suc from) k o → p from ≡ false → First p from (suc k) o
-    later None h e = λ i lo hi. elim (cases_eq i from) [
-      | inl same ↦ rw same e
-      | inr other ↦ h i (omega arith) (omega arith)
-    ]
-    later (Some r) h e = let lo : suc from ≤ r = h.0 in let hi : r < suc from + k = h.1 in (omega arith, omega arith, h.2)
+    go : (o : Option ℕ) → first p from k ≡ o → First p from k o
+    go None e = first_missed p k from e
+    go (Some r) e = let f = first_found p k from r e in (f.0, f.1, f.2)
 
 pub giving_here : (c : ℕ → ℕ) (v r w : ℕ) → w ≡ v → giving c v r w ≡ r
 giving_here c v r w e = let d : eqb w v ≡ true = eq-eqb w v e in rw d
@@ -100,10 +94,6 @@ painted_registers b g c (v ∷ vs) h = painted_registers b g (giving c v (lowest
   | inr e ↦ rw (giving_there c v (lowest_free b g c v) w e) (h w)
 ])
 
-count_all : (n : ℕ) → count (λ _. true) n ≡ n
-count_all zero = refl
-count_all (suc n) = let before : count (λ _. true) n ≡ n = count_all n in omega arith
-
 -- among fewer than K neighbours with a register, one register is free
 pub free_one : (b : Base) → SoundBase b → (g : Shape) (c : ℕ → ℕ) (v : ℕ) (vs : List ℕ) → ((w : ℕ) → listed vs w ≡ true → c w ≡ none) →
     count (λ w. g.joined v w && not (listed vs w)) g.size < b.registers → among b.first b.registers (lowest_free b g c v) ≡ true
@@ -119,10 +109,8 @@ free_one b sb g c v vs later few =
         let p = and_parts (g.joined v w.0) (eqb (c w.0) (b.first + r)) w.2 in
         let is : c w.0 ≡ b.first + r = eqb-true _ _ p.1 in
         let bank : b.first + b.registers ≤ 32 = sb.low in
-        let open-yet : listed vs w.0 ≡ false = elim (cases_Bool (listed vs w.0)) [
-          | inl e ↦ absurd (let n : c w.0 ≡ 255 = later w.0 e in omega arith)
-          | inr e ↦ e
-        ] in
+        let open-yet : listed vs w.0 ≡ false =
+        false_from_ne_true (listed vs w.0) (λ e. let n : c w.0 ≡ 255 = later w.0 e in omega arith) in
         (w.0, w.1, and_from _ _ p.0 (not_from_false _ open-yet), omega arith)
 
     go : (o : Option ℕ) → First (λ r. not (taken g c v r)) b.first b.registers o → among b.first b.registers (or_none o) ≡ true
@@ -133,28 +121,31 @@ free_one b sb g c v vs later few =
           | inl e ↦ rw e (h i (leb-true _ _ e) hi)
           | inr e ↦ rw e
         ]) r lo) in
-        let same : count (λ _. true) b.registers ≡ b.registers = count_all b.registers in
+        let same : count (λ _. true) b.registers ≡ b.registers = count_whole (λ _. true) b.registers (λ _ _. refl) in
         omega arith)
     go (Some r) h = and_from _ _ (le-leb _ _ h.0) (lt-ltb _ _ h.1)
 
--- where each of the list has a register to spare, each gets one
-pub painted_all : (b : Base) → SoundBase b → (g : Shape) (c : ℕ → ℕ) (vs : List ℕ) → Distinct vs → LightList b.registers g vs →
-    ((w : ℕ) → listed vs w ≡ true → c w ≡ none) → (w : ℕ) → listed vs w ≡ true →
+-- where each of the list has a register to spare, so has each that passes
+pub light_spare : (passes : ℕ → Bool) (k : ℕ) (g : Shape) (r : List ℕ) → LightList k g r → SpareList passes k g r
+light_spare passes k g [] l = tt
+light_spare passes k g (v ∷ vs) l = ((λ _. l.0), light_spare passes k g vs l.1)
+
+-- each of the list that passes, and has then a register to spare, gets one
+pub painted_some : (passes : ℕ → Bool) (b : Base) → SoundBase b → (g : Shape) (c : ℕ → ℕ) (vs : List ℕ) → Distinct vs → SpareList passes b.registers g vs →
+    ((w : ℕ) → listed vs w ≡ true → c w ≡ none) → (w : ℕ) → listed vs w ≡ true → passes w ≡ true →
     among b.first b.registers (painted b g c vs w) ≡ true
-painted_all b sb g c [] d l later w h = absurd (both_ways false refl h)
-painted_all b sb g c (v ∷ vs) d l later w h =
+painted_some passes b sb g c [] d l later w h p = absurd (both_ways false refl h)
+painted_some passes b sb g c (v ∷ vs) d l later w h p =
     let r : ℕ = lowest_free b g c v in
-    let got : among b.first b.registers r ≡ true =
-    free_one b sb g c v vs (λ z hz. later z (or_right (eqb v z) (listed vs z) hz)) l.0 in
     elim (cases_eq w v) [
       | inl w=v ↦
           let same : painted b g (giving c v r) vs w ≡ r = painted_kept b g (giving c v r) vs w (rw w=v d.0) ∙ giving_here c v r w w=v in
-          rw same got
+          rw same (free_one b sb g c v vs (λ z hz. later z (or_right (eqb v z) (listed vs z) hz)) (l.0 (rw w=v at p)))
       | inr w≠v ↦
-          painted_all b sb g (giving c v r) vs d.1 l.1
+          painted_some passes b sb g (giving c v r) vs d.1 l.1
           (λ z hz. giving_there c v r z (λ e. both_ways _ d.0 (rw e at hz)) ∙ later z (or_right (eqb v z) (listed vs z) hz))
           w (elim (or_cases (eqb v w) (listed vs w) h) [
             | inl e ↦ absurd (w≠v (sym (eqb-true v w e)))
             | inr e ↦ e
-          ])
+          ]) p
     ]

@@ -1,6 +1,6 @@
 -- The two groups that a merge is granted on. Assumes nothing.
 use Rattle.std.proofs.Common.{◌≡◌, ℕ, ◌+◌, ◌<◌, ◌≤◌, min, max, true, false, ltb, leb, refl, ◌∙◌, inl, inr, arith}
-use Rattle.std.proofs.lemmas.Bool.{cases_Bool, cases_lt, and_parts, and_from, ltb-true, both_ways}
+use Rattle.std.proofs.lemmas.Bool.{cases_lt, and_parts, and_from, ltb-true, both_ways, false_from_ne_true}
 use Rattle.session_laws.specs.Bank.{among}
 use Rattle.session_laws.specs.Base.{Base, SoundBase, fixed}
 use Rattle.session_laws.specs.State.{State, standing_graph}
@@ -30,12 +30,9 @@ pub record Groups (b : Base) (s : State) (u v x y : ℕ) : Type 0 where
 -- the higher of two names is not fixed, unless both are
 higher_loose : (b : Base) → SoundBase b → (s : State) (x y : ℕ) → x < y → Stands b s x →
     (fixed b x ≡ true → fixed b y ≡ true → ⊥) → fixed b y ≡ false
-higher_loose b sb s x y lower sx not-both = elim (cases_Bool (fixed b y)) [
-  | inl fy ↦ absurd (
-      let low : y < 32 = fixed_low b sb y fy in
-      not-both (sb.registers_fixed x sx.name.is_vertex (omega arith)) fy)
-  | inr fy ↦ fy
-]
+higher_loose b sb s x y lower sx not-both = false_from_ne_true (fixed b y) (λ fy.
+    let low : y < 32 = fixed_low b sb y fy in
+    not-both (sb.registers_fixed x sx.name.is_vertex (omega arith)) fy)
 
 pub groups_of : (b : Base) → SoundBase b → (s : State) → SoundState b s → (m u v : ℕ) → MergedOn b s m u v →
     Groups b s u v (min (s.table u) (s.table v)) (max (s.table u) (s.table v))

@@ -1,6 +1,6 @@
 -- Taking away one light vertex after the other finds out whether a graph can be emptied. Assumes nothing.
 use Rattle.std.proofs.Common.{◌≡◌, ℕ, zero, suc, ◌+◌, ◌<◌, ◌≤◌, Bool, true, false, ltb, Some, None, Decides, Option, refl, inl, inr, arith}
-use Rattle.std.proofs.lemmas.Bool.{cases_Bool, and_parts, ltb-true, both_ways, not-true, not_from_false}
+use Rattle.std.proofs.lemmas.Bool.{and_parts, ltb-true, both_ways, not-true, not_from_false, false_from_ne_true}
 use Rattle.graph.specs.Counting.{count, any, first}
 use Rattle.graph.specs.Shape.{Shape, Lawful}
 use Rattle.graph.proofs.Counting.{count_le}
@@ -85,8 +85,5 @@ unfolding empties
 empties_decides fixed k s l =
     let all = settles fixed k s l s.size (loose fixed s) (count_le (loose fixed s) s.size) (covers_loose fixed k s) in (
       λ yes'. all.0 (not-true _ yes'),
-      λ e. elim (cases_Bool (any (left_of fixed k s s.size (loose fixed s)) s.size)) [
-        | inl some ↦ absurd (all.1 some e)
-        | inr none ↦ not_from_false _ none
-      ],
+      λ e. not_from_false _ (false_from_ne_true (any (left_of fixed k s s.size (loose fixed s)) s.size) (λ some. all.1 some e)),
     )

@@ -1,6 +1,6 @@
 -- What merging two groups does to each pair of the merged view, exactly: for code that keeps that view in rows. Assumes nothing.
 use Rattle.std.proofs.Common.{◌≡◌, ℕ, true, false, ◌||◌, sym, refl, ◌∙◌, inl, inr}
-use Rattle.std.proofs.lemmas.Bool.{cases_Bool, or_cases, or_left, or_right}
+use Rattle.std.proofs.lemmas.Bool.{or_cases, or_left, or_right, false_from_ne_true}
 use Rattle.graph.specs.Shape.{Shape, Lawful}
 use Rattle.graph.specs.Views.{merged_view}
 use Rattle.graph.proofs.Merging.{same_test}
@@ -78,7 +78,4 @@ module _ (g : Shape) (l : Lawful g) (table : ℕ → ℕ) (x y : ℕ) (nx : Name
       })
 
   pub joined_y : (v : ℕ) → new.joined y v ≡ false
-  joined_y v = elim (cases_Bool (new.joined y v)) [
-    | inl h ↦ absurd ((merging.stood y (merging.lawful_t.standing y v h)).1 refl)
-    | inr h ↦ h
-  ]
+  joined_y v = false_from_ne_true (new.joined y v) (λ h. (merging.stood y (merging.lawful_t.standing y v h)).1 refl)

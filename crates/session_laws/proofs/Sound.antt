@@ -1,6 +1,6 @@
 -- Every call keeps a state sound. Assumes nothing.
 use Rattle.std.proofs.Common.{◌≡◌, ℕ, ◌+◌, ◌<◌, ◌≤◌, min, max, true, false, not, ◌||◌, eqb, [], ◌∷◌, ◌++◌, length, sym, refl, ◌∙◌, inl, inr, arith}
-use Rattle.std.proofs.lemmas.Bool.{cases_Bool, cases_eq, and_parts, or_cases, or_from, eqb-true, ne_eqb, both_ways, not-true, false≢true}
+use Rattle.std.proofs.lemmas.Bool.{cases_eq, and_parts, or_cases, or_from, eqb-true, ne_eqb, both_ways, not-true, false≢true, false_from_ne_true}
 use Rattle.std.proofs.lemmas.List.{length_push, length-set, length-map}
 use Rattle.graph.specs.Views.{removed_view, merged_view}
 use Rattle.session_laws.specs.Base.{Base, SoundBase, fixed}
@@ -173,20 +173,18 @@ united_sound b sb s m u v x y g om ss = record {
         ])
 
     not_met : (a c : ℕ) → s.table a ≡ x → s.table c ≡ y → b.graph.joined a c ≡ false
-    not_met a c ea ec = elim (cases_Bool (b.graph.joined a c)) [
-      | inl j ↦ absurd (both_ways _ g.not_joined (keep_joined s.removed (merged_graph b s) x y
-          (meet_from s.table b.graph sb.lawful x y (record {
-            one_name = g.x_stands.name;
-            other_name = g.y_stands.name;
-            two = differ;
-            near = a;
-            far = c;
-            near_of = ea;
-            far_of = ec;
-            met = j;
-          })) g.x_stands.is_kept g.y_stands.is_kept))
-      | inr j ↦ j
-    ]
+    not_met a c ea ec = false_from_ne_true (b.graph.joined a c) (λ j.
+        both_ways _ g.not_joined (keep_joined s.removed (merged_graph b s) x y
+        (meet_from s.table b.graph sb.lawful x y (record {
+          one_name = g.x_stands.name;
+          other_name = g.y_stands.name;
+          two = differ;
+          near = a;
+          far = c;
+          near_of = ea;
+          far_of = ec;
+          met = j;
+        })) g.x_stands.is_kept g.y_stands.is_kept))
 
 ends_of : (b : Base) (s : State) → SoundState b s → (m : ℕ) → (move_at s m).pending ≡ true → EndsStand b s (move_at s m)
 ends_of b s ss m h = (ss.one_stands m h, ss.other_stands m h)

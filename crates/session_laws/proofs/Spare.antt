@@ -1,28 +1,26 @@
 -- A group with a temporary is never pushed, so it always has a register to spare. Assumes nothing.
-use Rattle.std.proofs.Common.{◌≡◌, ℕ, ◌<◌, ◌≤◌, min, max, Bool, true, false, not, ◌&&◌, eqb, List, [], ◌∷◌, sym, refl, ◌∙◌, inl, inr, arith}
-use Rattle.std.proofs.lemmas.Bool.{cases_Bool, cases_eq, and_parts, and_from, or_cases, or_parts, or_right, or_left, eqb-true, eqb-false, eq-eqb, both_ways, not_from_false}
-use Rattle.graph.specs.Counting.{count}
+use Rattle.std.proofs.Common.{◌≡◌, ℕ, ◌<◌, min, max, Bool, true, ◌&&◌, eqb, List, [], ◌∷◌, sym, refl, inl, inr}
+use Rattle.std.proofs.lemmas.Bool.{cases_Bool, and_parts, and_from, or_cases, or_right, or_left, eqb-true, eq-eqb, both_ways}
 use Rattle.graph.specs.Shape.{Shape}
 use Rattle.graph.specs.Views.{merged_view}
 use Rattle.session_laws.specs.Bank.{among}
 use Rattle.session_laws.specs.Base.{Base, SoundBase, fixed}
 use Rattle.session_laws.specs.State.{State, listed, merged_graph, holds_temporary}
 use Rattle.session_laws.specs.Calls.{Call, Outcome, refused, noted, marked, simplified, frozen, pushed, together, apart, merged, coloured}
-use Rattle.session_laws.specs.Colouring.{none, lowest_free, giving, painted, own_number, group_register, register_of}
+use Rattle.session_laws.specs.Colouring.{register_of}
 use Rattle.session_laws.specs.Grounds.{GrantedOn, ColouredOn}
 use Rattle.session_laws.specs.Outcomes.{outcome}
 use Rattle.session_laws.specs.Runs.{called, after, left_by, united}
-use Rattle.session_laws.specs.Invariants.{SoundState, Distinct, SpareList, SparesTemporaries}
-use Rattle.session_laws.proofs.Colours.{own_loose, own_fixed, fixed_register, group_kept, register_in, name_of}
-use Rattle.session_laws.proofs.Counts.{any_found, any_from}
+use Rattle.session_laws.specs.Invariants.{SoundState, SpareList, SparesTemporaries}
+use Rattle.session_laws.proofs.Colours.{name_served, register_in, name_of}
+use Rattle.graph.proofs.Counting.{any_from}
+use Rattle.session_laws.proofs.Counts.{any_found}
 use Rattle.session_laws.proofs.Emptied.{group_merging}
 use Rattle.session_laws.proofs.Granting.{grounds}
-use Rattle.session_laws.proofs.Light.{simplified_light}
-use Rattle.session_laws.proofs.Merges.{Merging, joined_falls}
-use Rattle.session_laws.proofs.Painting.{painted_kept, giving_here, giving_there, free_one}
+use Rattle.session_laws.proofs.Light.{merged_spare, simplified_light}
 use Rattle.session_laws.proofs.Pairs.{groups_of}
 use Rattle.session_laws.proofs.Runs.{keeps}
-use Rattle.session_laws.proofs.Standing.{stands_parts, stands_from, Stands, Name}
+use Rattle.session_laws.proofs.Standing.{stands_parts, Stands}
 
 -- fewer pass
 spare_fewer : (p q : ℕ → Bool) (k : ℕ) (g : Shape) (r : List ℕ) → ((v : ℕ) → listed r v ≡ true → q v ≡ true → p v ≡ true) →
@@ -32,19 +30,6 @@ spare_fewer p q k g (v ∷ vs) less l = (
   λ h. l.0 (less v (or_left (eqb v v) (listed vs v) (eq-eqb v v refl)) h),
   spare_fewer p q k g vs (λ w hw. less w (or_right (eqb v w) (listed vs w) hw)) l.1,
 )
-
-merged_spare : (passes : ℕ → Bool) (fixed : ℕ → Bool) (k : ℕ) (s t : Shape) (x y : ℕ) → Merging fixed s t x y → (r : List ℕ) →
-    listed r x ≡ false → listed r y ≡ false → SpareList passes k s r → SpareList passes k t r
-merged_spare passes fixed k s t x y m [] kx ky l = tt
-merged_spare passes fixed k s t x y m (v ∷ vs) kx ky l =
-    let px = or_parts (eqb v x) (listed vs x) kx in
-    let py = or_parts (eqb v y) (listed vs y) ky in
-    let falls : count (λ w. t.joined v w && not (listed vs w)) t.size ≤ count (λ w. s.joined v w && not (listed vs w)) s.size =
-    joined_falls fixed k s t x y m (λ w. not (listed vs w)) (λ w. not (listed vs w)) (λ w h. h)
-    (λ _. not_from_false _ py.1) v (eqb-false v x px.0) in (
-      λ h. let few : count (λ w. s.joined v w && not (listed vs w)) s.size < k = l.0 h in omega arith,
-      merged_spare passes fixed k s t x y m vs px.1 py.1 l.1,
-    )
 
 -- a temporary among the members
 holds_member : (b : Base) (s : State) (v : ℕ) → holds_temporary b s v ≡ true →
@@ -101,42 +86,8 @@ spare_run b sb [] s ss l = l
 spare_run b sb (c ∷ cs) s ss l =
     spare_run b sb cs (called b s c) (keeps b sb s ss c).sound (keeps_spare b sb s ss (outcome b s c) (grounds b sb s c) l)
 
-painted_some : (passes : ℕ → Bool) (b : Base) → SoundBase b → (g : Shape) (c : ℕ → ℕ) (vs : List ℕ) → Distinct vs → SpareList passes b.registers g vs →
-    ((w : ℕ) → listed vs w ≡ true → c w ≡ none) → (w : ℕ) → listed vs w ≡ true → passes w ≡ true →
-    among b.first b.registers (painted b g c vs w) ≡ true
-painted_some passes b sb g c [] d l later w h p = absurd (both_ways false refl h)
-painted_some passes b sb g c (v ∷ vs) d l later w h p =
-    let r : ℕ = lowest_free b g c v in
-    elim (cases_eq w v) [
-      | inl w=v ↦
-          let same : painted b g (giving c v r) vs w ≡ r = painted_kept b g (giving c v r) vs w (rw w=v d.0) ∙ giving_here c v r w w=v in
-          rw same (free_one b sb g c v vs (λ z hz. later z (or_right (eqb v z) (listed vs z) hz)) (l.0 (rw w=v at p)))
-      | inr w≠v ↦
-          painted_some passes b sb g (giving c v r) vs d.1 l.1
-          (λ z hz. giving_there c v r z (λ e. both_ways _ d.0 (rw e at hz)) ∙ later z (or_right (eqb v z) (listed vs z) hz))
-          w (elim (or_cases (eqb v w) (listed vs w) h) [
-            | inl e ↦ absurd (w≠v (sym (eqb-true v w e)))
-            | inr e ↦ e
-          ]) p
-    ]
-
-group_served : (b : Base) → SoundBase b → (s : State) → SoundState b s → SparesTemporaries b s → (v : ℕ) → listed s.removed v ≡ true →
-    holds_temporary b s v ≡ true → among b.first b.registers (group_register b s v) ≡ true
-unfolding group_register
-group_served b sb s ss l v h p =
-    painted_some (holds_temporary b s) b sb (merged_graph b s) (own_number b) s.removed ss.removed_once l
-    (λ w hw. own_loose b w (ss.removed_loose w hw)) v h p
-
 -- a granted colour gives every vertex a register whose group holds a temporary
 pub temporaries_served : (b : Base) → SoundBase b → (s : State) → SoundState b s → SparesTemporaries b s → (register : ℕ → ℕ) → ColouredOn b s register →
     (v : ℕ) → b.graph.stands v ≡ true → holds_temporary b s (s.table v) ≡ true → among b.first b.registers (register_of b s v) ≡ true
-temporaries_served b sb s ss l register g v hv p = rw (register_in b s v hv) (named (s.table v) (name_of b s ss v hv) p)
-  where
-    named : (t : ℕ) → Name s.table b.graph t → holds_temporary b s t ≡ true → among b.first b.registers (group_register b s t) ≡ true
-    named t n p = elim (cases_Bool (listed s.removed t)) [
-      | inl h ↦ group_served b sb s ss l t h p
-      | inr h ↦ elim (cases_Bool (fixed b t)) [
-        | inl f ↦ rw (group_kept b s t h ∙ own_fixed b t f) (fixed_register b t f)
-        | inr f ↦ absurd (g.none_loose t (and_from _ _ (stands_from b s t (record { name = n; is_kept = h })) (not_from_false _ f)))
-      ]
-    ]
+temporaries_served b sb s ss l register g v hv p =
+    rw (register_in b s v hv) (name_served (holds_temporary b s) b sb s ss l g.none_loose (s.table v) (name_of b s ss v hv) p)

@@ -4,8 +4,8 @@ use Rattle.graph.specs.Counting.{count}
 use Rattle.graph.specs.Shape.{Shape, Lawful, degree}
 use Rattle.session_laws.specs.Emptying.{loose, CanBeEmptied}
 use Rattle.session_laws.specs.Peeling.{bound_in}
-use Rattle.session_laws.proofs.Counts.{count_mono, find}
-use Rattle.std.proofs.lemmas.Bool.{and_parts, and_from, ltb-true, ltb-false, and_cases, both_ways, cases_Bool, not_from_false}
+use Rattle.session_laws.proofs.Counts.{count_mono, find, second_fails}
+use Rattle.std.proofs.lemmas.Bool.{and_parts, and_from, ltb-true, ltb-false, cases_Bool, not_from_false}
 use Rattle.session_laws.proofs.Cores.{NoCore, from_parts, in_loose, far_stands, emptied_no_core, no_core_emptied}
 
 -- s shows no more than t: no other loose vertices, and no other pairs of a loose one
@@ -46,10 +46,8 @@ some_light fixed k s l e v hv = elim (find (λ u. loose fixed s u && ltb (degree
     someone = (v, hv);
     within = λ w h. h;
     heavy = λ w h.
-        let many : k ≤ degree s w = elim (and_cases (loose fixed s w) (ltb (degree s w) k) (none w (in_loose fixed s l w h))) [
-          | inl not-loose ↦ absurd (both_ways _ not-loose h)
-          | inr not_low ↦ ltb-false _ _ not_low
-        ] in
+        let many : k ≤ degree s w =
+        ltb-false _ _ (second_fails (loose fixed s w) (ltb (degree s w) k) (none w (in_loose fixed s l w h)) h) in
         let all : degree s w ≤ bound_in fixed s (loose fixed s) w = count_mono _ _ s.size (λ x _ j.
         from_parts (s.joined w x) (fixed x) (loose fixed s x) j (fixed_or_loose fixed s l w x j)) in
         omega arith;

@@ -1,7 +1,7 @@
 -- The registers that a session may give out. Assumes nothing.
 use Rattle.std.specs.Prelude.{ℕ, ◌+◌, ◌≤◌, Bool, cond, ◌&&◌, Some, None, Option, nat_le, nat_lt}
-use Rattle.graph.specs.declared.class.Class.{Class}
-use Rattle.graph.specs.declared.class.Class.TheVariants.{Zero, One}
+use Rattle.classes.specs.declared.class.Class.{Class}
+use Rattle.classes.specs.declared.class.Class.TheVariants.{Zero, One}
 
 -- A bank is a class and how many registers of it may be given out, the K of graph colouring.
 pub record Bank : Type 0 where

@@ -2,7 +2,7 @@
 use Rattle.std.specs.Prelude.{◌≡◌, ℕ, ◌+◌, ◌<◌, ◌≤◌, Bool, true, ◌&&◌, Option, ◌≢◌}
 use Rattle.graph.specs.Shape.{Shape, Lawful}
 use Rattle.graph.specs.Views.{class_view, clique_view}
-use Rattle.graph.specs.declared.class.Class.{Class}
+use Rattle.classes.specs.declared.class.Class.{Class}
 use Rattle.session_laws.specs.Bank.{Bank, first_of, among, is_register, classes_under}
 
 pub record Opening : Type 0 where

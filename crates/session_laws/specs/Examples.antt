@@ -2,7 +2,7 @@
 use Rattle.std.specs.Prelude.{◌≡◌, ℕ, Bool, ◌||◌, List, [], ◌∷◌, map, Some, nat_lt}
 use Rattle.graph.specs.Shape.{Shape}
 use Rattle.graph.specs.Joining.{same_pair}
-use Rattle.graph.specs.declared.class.Class.TheVariants.{Zero}
+use Rattle.classes.specs.declared.class.Class.TheVariants.{Zero}
 use Rattle.session_laws.specs.Base.{Opening, base_of}
 use Rattle.session_laws.specs.State.{Emptiable, opened}
 use Rattle.session_laws.specs.Calls.{Call, Outcome, note, mark, simplify, freeze, push, merge, colour, refused, noted, marked, simplified, frozen, pushed, merged, coloured}

@@ -9,87 +9,65 @@ ghost use Rattle.session_laws.specs.Reaching.{Reaches};
 ghost use Rattle.session_laws.specs.Examples.{PathEmpties, TriangleStays, PathWorked, TriangleWorked};
 
 // Once the standing graph can be emptied, it can be after every later call.
-pub fn stays_emptiable() -> u8
+pub fn stays_emptiable()
     ensures { Always StaysEmptiable }
-{
-    0
-}
+{}
 
 // Every granted colour gives joined vertices different registers, a group one answer, and a fixed vertex its own number.
-pub fn colours_soundly() -> u8
+pub fn colours_soundly()
     ensures { Always ColoursSoundly }
-{
-    0
-}
+{}
 
 // The merge table maps each vertex to the lowest of its group.
-pub fn names_lowest() -> u8
+pub fn names_lowest()
     ensures { Always NamesLowest }
-{
-    0
-}
+{}
 
 // From a graph that can be emptied, nothing is spilled: no push is granted, and colour leaves no vertex out.
-pub fn never_spills() -> u8
+pub fn never_spills()
     ensures pushes { Always NeverPushes }
     ensures colours { Always ColoursAll }
     ensures unpushed { Always ColoursUnpushed }
-{
-    0
-}
+{}
 
 // A run has no more granted steps than loose vertices and moves.
-pub fn bounded_steps() -> u8
+pub fn bounded_steps()
     ensures { Always BoundedSteps }
-{
-    0
-}
+{}
 
 // All of these, of one run.
-pub fn runs_keep() -> u8
+pub fn runs_keep()
     ensures { Always RunKeeps }
-{
-    0
-}
+{}
 
 // What one call adds to all of these, in a state that a session can reach.
-pub fn one_call() -> u8
+pub fn one_call()
     ensures opening { OpensWell }
     ensures call { Keeps }
     ensures granted { Grants }
-{
-    0
-}
+{}
 
 // What holds in every state that a run leads to, and how the next call hands it on.
-pub fn reaches() -> u8
+pub fn reaches()
     ensures { Reaches }
-{
-    0
-}
+{}
 
 // The tests for merging two vertices.
-pub fn tests_keep() -> u8
+pub fn tests_keep()
     ensures briggs { BriggsKeeps }
     ensures george { GeorgeKeeps }
     ensures turned { GeorgeKeepsTurned }
-{
-    0
-}
+{}
 
 // Taking away one vertex of low degree after the other tells whether a graph can be emptied.
-pub fn peeling_decides() -> u8
+pub fn peeling_decides()
     ensures { EmptiesDecides }
-{
-    0
-}
+{}
 
 // With two registers a path can be emptied and a triangle cannot; a run over each.
-pub fn witnesses() -> u8
+pub fn witnesses()
     ensures path { PathEmpties }
     ensures triangle { TriangleStays }
     ensures merging { PathWorked }
     ensures pushing { TriangleWorked }
-{
-    0
-}
+{}

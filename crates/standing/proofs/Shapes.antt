@@ -1,18 +1,17 @@
 -- What every standing graph keeps, told by its meaning. Assumes nothing.
-use Rattle.std.proofs.Common.{◌≡◌, ℕ, ◌+◌, ◌<◌, ◌≤◌, Bool, true, false, ◌&&◌, inl, inr, arith}
-use Rattle.std.proofs.lemmas.Bool.{cases_Bool, and_from, and_parts}
+use Rattle.std.proofs.Common.{◌≡◌, ℕ, ◌+◌, ◌<◌, ◌≤◌, Bool, true, false, ◌&&◌}
+use Rattle.std.proofs.lemmas.Bool.{and_from, and_parts}
 use Rattle.graph.specs.Counting.{count}
-use Rattle.graph.specs.Shape.{Shape, Lawful}
+use Rattle.graph.specs.Shape.{Lawful}
 use Rattle.graph.proofs.Keeping.{keeping_view}
 use Rattle.graph.proofs.Merging.{same_test}
 use Rattle.numbers.specs.Sets.{has}
 use Rattle.numbers.specs.Counting.{count as set_count}
 use Rattle.board.specs.Boards.{merged_graph}
 use Rattle.board.proofs.Boards.{merged_lawful}
-use Rattle.board.proofs.Bridging.{set_size}
+use Rattle.board.proofs.Bridging.{set_size, none_joined}
 use Rattle.session_laws.specs.Base.{SoundBase}
-use Rattle.session_laws.proofs.Cores.{far_inside}
-use Rattle.standing.specs.Standing.{base_of, board_of, graph_of, is_left}
+use Rattle.standing.specs.Standing.{base_of, board_of, graph_of, is_left, loose_in}
 use Rattle.standing.specs.declared.standing.Standing.{Standing}
 use Rattle.standing.proofs.Told.{told_standing}
 
@@ -37,15 +36,12 @@ graph_stands s v = same_test _ _
 pub bank_small : (s : Standing) → (base_of s).first + (base_of s).registers ≤ 32
 bank_small s = (base_sound s).low
 
--- nothing past the end is joined
-pub none_joined : (g : Shape) → Lawful g → (u v : ℕ) → g.size ≤ v → g.joined u v ≡ false
-none_joined g l u v h = elim (cases_Bool (g.joined u v)) [
-  | inl j ↦ absurd (let low : v < g.size = far_inside g l u v j in omega arith)
-  | inr j ↦ j
-]
-
 -- how many are in a set that is part of a row
 pub row_size : (s : Standing) (u : ℕ) (p q : ℕ → Bool) → ((v : ℕ) → p v ≡ ((graph_of s).joined u v && q v)) →
     set_count p 512 ≡ count (λ v. (graph_of s).joined u v && q v) (graph_of s).size
 row_size s u p q same = set_size p (λ v. (graph_of s).joined u v && q v) (graph_of s).size (graph_lawful s).most same
     (λ v h. let e : (graph_of s).joined u v ≡ false = none_joined (graph_of s) (graph_lawful s) u v h in rw e)
+
+-- loose vertices stand, so they are below the size
+pub loose_inside : (s : Standing) (v : ℕ) → loose_in s v ≡ true → v < (graph_of s).size
+loose_inside s v h = (graph_lawful s).inside v (and_parts ((graph_of s).stands v) _ h).0

@@ -1,5 +1,5 @@
 -- What a standing graph means. Assumes nothing.
-use Rattle.std.specs.Prelude.{ℕ, Bool, not, ◌&&◌, List, ◌==◌, nat_lt, slice_index}
+use Rattle.std.specs.Prelude.{ℕ, Bool, ◌&&◌, nat_lt}
 use Rattle.graph.specs.Shape.{Shape, degree}
 use Rattle.graph.specs.Views.{keeping}
 use Rattle.numbers.specs.Sets.{has}
@@ -7,7 +7,6 @@ use Rattle.board.specs.Boards.{merged_graph}
 use Rattle.board.specs.declared.board.Board.{Board}
 use Rattle.session_laws.specs.Base.{Base, fixed}
 use Rattle.session_laws.specs.Emptying.{loose}
-use Rattle.session_laws.specs.Tests.{significant}
 use Rattle.standing.specs.Sound.{base_over}
 use Rattle.standing.specs.declared.standing.Standing.{Standing}
 
@@ -42,11 +41,3 @@ light_at s v = nat_lt (degree (graph_of s) v) (registers_of s)
 
 abbrev pub light_loose : Standing → ℕ → Bool
 light_loose s v = loose_in s v && light_at s v
-
--- whether w is in a row and significant
-abbrev pub weighty : Standing → (ℕ → Bool) → ℕ → Bool
-weighty s row w = row w && significant (fixed_in s) (registers_of s) (graph_of s) w
-
--- whether the row of marks has one for w
-abbrev pub marked : List ℕ → ℕ → Bool
-marked marks w = not (slice_index marks w == 0)

@@ -1,12 +1,9 @@
--- Merge tables stay settled; what a test on two answers tells. Assumes nothing.
-use Rattle.std.proofs.Common.{◌≡◌, ℕ, ◌<◌, ◌≤◌, min, max, Bool, true, false, ◌&&◌, ◌||◌, eqb, ltb, leb, List, length, get_or, sym, ap, ◌∙◌, subst, ap₂, inl, inr, arith}
+-- Merge tables stay settled. Assumes nothing.
+use Rattle.std.proofs.Common.{◌≡◌, ℕ, ◌<◌, ◌≤◌, min, max, true, ◌&&◌, eqb, ltb, leb, List, length, get_or, sym, ap, ◌∙◌, subst, ap₂, inl, inr, arith}
 use mathlib.Core.Path.{fun_ext}
 use lib.ListN.{get_or-eq_default}
-use Rattle.std.proofs.lemmas.Bool.{and_parts, and_from, leb-true, leb-false, or_parts, le-leb, eqb-true, eq-eqb, ne_eqb, cases_eq, cases_lt, lt-ltb, cond-true, cond-false}
+use Rattle.std.proofs.lemmas.Bool.{and_parts, and_from, leb-true, le-leb, eqb-true, eq-eqb, ne_eqb, cases_eq, cases_lt, lt-ltb, cond-true, cond-false}
 use Rattle.views.specs.Groups.{group_at, settled_at, renamed, united, merged_groups}
-
-pub both_tests : (t r v : ℕ) (j s b : Bool) → r ≡ t → s ≡ j → (eqb r v && s) ≡ b → (eqb t v && j) ≡ b
-both_tests t r v j s b e f h = rw (sym e, sym f) h
 
 -- a table is settled where every name lies no higher and is its own
 pub settled_from : (table : ℕ → ℕ) (v : ℕ) → table v ≤ v → table (table v) ≡ table v → settled_at table v ≡ true
@@ -81,27 +78,19 @@ united_group to after u v whole kept s hu hv each = known_group after (united (g
 pub same_settled : (f g : ℕ → ℕ) → f ≡ g → (v : ℕ) → settled_at g v ≡ true → settled_at f v ≡ true
 same_settled f g e v h = subst (λ (t : ℕ → ℕ). settled_at t v ≡ true) (sym e) h
 
-pub both_inside : (u v : ℕ) → (leb 512 u || leb 512 v) ≡ false → (u < 512) × (v < 512)
-both_inside u v h =
-    let p = or_parts (leb 512 u) (leb 512 v) h in (leb-false 512 u p.0, leb-false 512 v p.1)
-
-pub merge_group : (to after : List ℕ) (u v a b high low : ℕ) → length to ≡ 512 → ((v : ℕ) → settled_at (group_at to) v ≡ true) →
-    (leb 512 u || leb 512 v) ≡ false → a ≡ group_at to u → b ≡ group_at to v → high ≡ max a b → low ≡ min a b → length after ≡ 512 →
-    ((w : ℕ) → w < 512 → get_or after w w ≡ renamed (group_at to) high low w) → group_at after ≡ united (group_at to) u v
-merge_group to after u v a b high low whole s in_both ea eb eh el kept each =
-    let i = both_inside u v in_both in
-    let ehigh : high ≡ max (group_at to u) (group_at to v) = rw (sym ea, sym eb) eh in
-    let elow : low ≡ min (group_at to u) (group_at to v) = rw (sym ea, sym eb) el in
-    united_group to after u v whole kept s i.0 i.1
-    (λ w h. each w h ∙ ap₂ (λ (x y : ℕ). renamed (group_at to) x y w) ehigh elow)
+pub merge_group : (to after : List ℕ) (u v a b : ℕ) → length to ≡ 512 → ((v : ℕ) → settled_at (group_at to) v ≡ true) →
+    u < length to → v < length to → a ≡ group_at to u → b ≡ group_at to v → length after ≡ 512 →
+    ((w : ℕ) → w < 512 → get_or after w w ≡ renamed (group_at to) (max a b) (min a b) w) → group_at after ≡ united (group_at to) u v
+merge_group to after u v a b whole s hu hv ea eb kept each =
+    united_group to after u v whole kept s (omega arith) (omega arith)
+    (λ w h. each w h ∙ ap₂ (λ (x y : ℕ). renamed (group_at to) (max x y) (min x y) w) ea eb)
 
 pub united_settled : (table : ℕ → ℕ) → ((v : ℕ) → settled_at table v ≡ true) → (u v w : ℕ) → settled_at (united table u v) w ≡ true
 united_settled table s u v w =
     let lower : min (table u) (table v) ≤ max (table u) (table v) = omega arith in
     renamed_settled table (max (table u) (table v)) (min (table u) (table v)) s lower (lower_own table s u v) w
 
-pub united_merged : (table : ℕ → ℕ) (u v : ℕ) → (leb 512 u || leb 512 v) ≡ false → united table u v ≡ merged_groups table u v
-united_merged table u v h =
-    let i = both_inside u v h in
-    let t : (ltb u 512 && ltb v 512) ≡ true = and_from (ltb u 512) (ltb v 512) (lt-ltb u 512 i.0) (lt-ltb v 512 i.1) in
+pub united_merged : (table : ℕ → ℕ) (u v : ℕ) → u < 512 → v < 512 → united table u v ≡ merged_groups table u v
+united_merged table u v hu hv =
+    let t : (ltb u 512 && ltb v 512) ≡ true = and_from (ltb u 512) (ltb v 512) (lt-ltb u 512 hu) (lt-ltb v 512 hv) in
     fun_ext (λ w. sym (cond-true {A = ℕ} (ltb u 512 && ltb v 512) (united table u v w) (table w) t))

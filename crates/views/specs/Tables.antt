@@ -2,7 +2,7 @@
 use Rattle.std.specs.Prelude.{ℕ, Bool, false, List, None, Option, slice_index_or}
 use Rattle.graph.specs.Shape.{Shape}
 use Rattle.graph.specs.Views.{class_view, clique_view, merged_view, removed_view}
-use Rattle.graph.specs.declared.class.Class.{Class}
+use Rattle.classes.specs.declared.class.Class.{Class}
 use Rattle.views.specs.Groups.{group_at}
 
 -- numbers past the end are not flagged

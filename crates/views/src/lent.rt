@@ -20,14 +20,14 @@ impl<'a, G> Lent<'a, G> {
 }
 
 impl<G: Graph> Graph for Lent<'_, G> {
-    ghost means = { λ g. G.Graph.means g.to.now };
+    ghost means = { λ g. G.means g.to.now };
 
-    ghost lawful = { λ g. G.Graph.lawful g.to.now };
+    ghost lawful = { λ g. G.lawful g.to.now };
 
     // the same graph is lent before and after
-    ghost leaves = { λ g u v after. (after.to.ghost_name ≡ g.to.ghost_name) × G.Graph.leaves g.to.now u v after.to.now };
+    ghost leaves = { λ g u v after. (after.to.ghost_name ≡ g.to.ghost_name) × G.leaves g.to.now u v after.to.now };
 
-    ghost joins = { λ g u v after k. G.Graph.joins g.to.now u v after.to.now k.1 };
+    ghost joins = { λ g u v after k. G.joins g.to.now u v after.to.now k.1 };
 
     fn size(&self) -> usize {
         self.to.size()

@@ -1,8 +1,9 @@
 #![tactic(auto)]
 
 mod details;
+mod input;
+mod record;
 mod route;
-mod spot;
 pub mod words;
 
 pub use words::explain;

@@ -1,37 +1,34 @@
+use crate::input::Input;
 use formula::read_written;
 use liveness::find_way;
-use std::alloc::{AllocError, Global};
+use std::alloc::AllocError;
 
-// How many records there are on a shortest way to one that reads the value before any sets it.
-fn way_to(bytes: &[u8], value: u16, way: &mut [u16; 512]) -> Option<usize> {
-    match read_written(bytes) {
-        Ok(formula) => find_way(formula.code(), value, way),
-        Err(_) => None,
+impl Input<'_> {
+    // How many records there are on a shortest way to one that reads the value before any sets it.
+    fn way_to(self, value: u16, way: &mut [u16; 512]) -> Option<usize> {
+        let formula = read_written(self.bytes).ok()?;
+        find_way(formula.code(), value, way)
     }
-}
 
-// The numbers, each behind a blank.
-fn listed(heap: Global, numbers: &[u16]) -> Result<String, AllocError> {
-    let mut text = String::new(heap);
-    for number in numbers {
-        let next = format!(in heap; " {number}")?;
-        text.push_str(next.as_str())?;
+    // The record that reads the value first, and the way there from the first record.
+    pub fn used_before_set(self, value: u16) -> Result<String, AllocError> {
+        // lent to the walk, which writes the way into it and answers its length
+        let mut way = [0; 512];
+        let count = self.way_to(value, &mut way).unwrap_or(0);
+        let numbers = way.get(..count).unwrap_or(&[]);
+        let reader = numbers.last().copied().unwrap_or(0);
+        let through = self.listed(numbers)?;
+        format!(in self.heap;
+            "record {reader} reads value {value}, which no record has set on the way through records{through}"
+        )
     }
-    Ok(text)
-}
 
-// The record that reads the value first, and the way there from the first record.
-pub(crate) fn used_before_set(
-    heap: Global,
-    bytes: &[u8],
-    value: u16,
-) -> Result<String, AllocError> {
-    let mut way = [0; 512];
-    let count = way_to(bytes, value, &mut way).unwrap_or(0);
-    let numbers = way.get(0..count).unwrap_or(&[]);
-    let reader = numbers.last().copied().unwrap_or(0);
-    let through = listed(heap, numbers)?;
-    format!(in heap;
-        "record {reader} reads value {value}, which no record has set on the way through records{through}"
-    )
+    // The numbers, each behind a blank.
+    fn listed(self, numbers: &[u16]) -> Result<String, AllocError> {
+        let mut text = String::new(self.heap);
+        for number in numbers {
+            write!(text, " {number}")?;
+        }
+        Ok(text)
+    }
 }

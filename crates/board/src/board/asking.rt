@@ -1,3 +1,5 @@
+#![tactic(auto, unfolding(crate::specs::Boards::opened_graph, crate::specs::Boards::table_of))]
+
 // What can be asked of the merged graph.
 ghost use Rattle.std.specs.Prelude.{◌≡◌, ℕ, ◌&&◌};
 ghost use Rattle.graph.specs.Counting.{count};
@@ -38,10 +40,7 @@ impl Board {
     pub fn row(&self, u: usize) -> NumberSet
         ensures { (v : ℕ) → has result v ≡ (merged_graph self.now).joined u v }
     {
-        match self.rows.get(u) {
-            Some(row) => *row,
-            None => NumberSet::new(),
-        }
+        self.rows.row(u)
     }
 
     pub fn joined(&self, u: usize, v: usize) -> bool

@@ -1,9 +1,10 @@
+#![tactic(auto, unfolding(crate::specs::Boards::opened_graph, crate::specs::Boards::table_of))]
+
 ghost use Rattle.std.specs.Prelude.{◌≡◌};
 ghost use Rattle.session_laws.specs.Runs.{united};
 ghost use Rattle.board.specs.Boards.{opened_graph, table_of, TwoGroups};
 
 use super::Board;
-use crate::rows::merge_rows;
 
 impl Board {
     // The group called `high` goes into the one called `low`.
@@ -12,8 +13,7 @@ impl Board {
         ensures graph { opened_graph self.new ≡ opened_graph self.old }
         ensures table { table_of self.new ≡ united (table_of self.old) high low }
     {
-        let table = self.table;
-        merge_rows(&mut self.rows, low, high);
-        self.table = table.merge(low, high);
+        self.rows.merge(low, high);
+        self.table = self.table.merge(low, high);
     }
 }

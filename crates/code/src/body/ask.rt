@@ -1,25 +1,19 @@
-ghost use Rattle.std.specs.Prelude.{◌≡◌, true, IfSome, nat_lt};
+ghost use Rattle.std.specs.Prelude.{◌≡◌, true, IfSome, take};
 ghost use Rattle.std.specs.Option.{option_map};
 ghost use Rattle.std.specs.List.{slice_get};
-ghost use Rattle.code.specs.Codes.{rows_of, is_move, moves_in};
+ghost use Rattle.code.specs.Codes.{rows_of, moves_in};
 ghost use Rattle.code.specs.Fits.{row_fits};
 ghost use Rattle.code.specs.Rows.{fields};
 
 use super::Code;
 use crate::row::Row;
 
-fn is_move(row: Row) -> bool
-    ensures { result ≡ is_move (fields row) }
-{
-    row.kind() == 3
-}
-
 impl Code {
-    // Whether there is a row at this place.
-    fn holds(&self, place: usize) -> bool
-        ensures { result ≡ nat_lt place self.now.len }
+    // The rows that are there.
+    fn rows(&self) -> &[Row]
+        ensures { result.now ≡ take self.now.len self.now.rows }
     {
-        place < self.len
+        &self.rows[..self.len]
     }
 
     // The row at a place, where there is one.
@@ -27,22 +21,13 @@ impl Code {
         ensures value { option_map fields result ≡ slice_get (rows_of self.now) place }
         ensures bound { IfSome result (λ row. row_fits self.now.numbers self.now.reach row ≡ true) }
     {
-        if !self.holds(place) {
-            return None;
-        }
-        Some(self.rows[place])
+        self.rows().get(place).copied()
     }
 
     // How many rows are moves.
     pub fn moves(&self) -> usize
         ensures { result ≡ moves_in (rows_of self.now) }
     {
-        let mut moves = 0;
-        for place in 0..self.len {
-            if is_move(self.rows[place]) {
-                moves += 1;
-            }
-        }
-        moves
+        self.rows().iter().filter(|row| row.is_move()).count()
     }
 }

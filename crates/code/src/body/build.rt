@@ -1,5 +1,5 @@
-ghost use Rattle.std.specs.Prelude.{◌≡◌, ◌≤◌, Bool, ◌&&◌, [], ◌∷◌, ◌++◌, is_some, IfSome, if◌then◌else◌, nat_le};
-ghost use Rattle.code.specs.Codes.{rows_of, takes};
+ghost use Rattle.std.specs.Prelude.{◌≡◌, ◌≤◌, Bool, ◌&&◌, [], ◌∷◌, ◌++◌, is_ok, is_some, IfSome, if◌then◌else◌, nat_le};
+ghost use Rattle.code.specs.Codes.{rows_of, takes, admits};
 ghost use Rattle.code.specs.Fits.{row_fits, below};
 ghost use Rattle.code.specs.Rows.{fields};
 
@@ -10,20 +10,25 @@ use crate::row::Row;
 fn is_below(bound: usize, field: Option<u16>) -> bool
     ensures { result ≡ below bound field }
 {
-    match field {
-        Some(number) => (number as usize) < bound,
-        None => true,
-    }
+    field.is_none_or(|number| usize::from(number) < bound)
 }
 
 // Whether the row keeps the bounds of code with so many numbers and so many rows.
 fn keeps_bounds(numbers: usize, reach: usize, row: Row) -> bool
     ensures { result ≡ row_fits numbers reach row }
 {
-    let to = is_below(reach, row.target());
-    let read = is_below(numbers, row.first_source())
-        & (is_below(numbers, row.second_source()) & to);
-    is_below(numbers, row.destination()) & read
+    let others = is_below(numbers, row.first_source())
+        & (is_below(numbers, row.second_source()) & is_below(reach, row.target()));
+    is_below(numbers, row.destination()) & others
+}
+
+// Why a row is refused.
+#[derive(Clone, Copy, PartialEq, Eq, Debug)]
+pub enum Refused {
+    // there are as many rows as there may be
+    Full,
+    // a number or the target is not below its bound
+    OutOfBounds,
 }
 
 impl Code {
@@ -46,21 +51,30 @@ impl Code {
         })
     }
 
+    // Whether one row more is taken.
+    fn admit(&self, row: Row) -> Result<(), Refused>
+        ensures { result ≡ admits self.now row }
+    {
+        if self.len >= self.reach {
+            return Err(Refused::Full);
+        }
+        if !keeps_bounds(self.numbers, self.reach, row) {
+            return Err(Refused::OutOfBounds);
+        }
+        Ok(())
+    }
+
     // One row more; refused, and nothing changed, where there is no room or the row does not keep the bounds.
-    pub fn push(&mut self, row: Row) -> bool
-        ensures granted { result ≡ takes self.old row }
-        ensures rows { rows_of self.new ≡ (if result then rows_of self.old ++ (fields row ∷ []) else rows_of self.old) }
+    pub fn push(&mut self, row: Row) -> Result<(), Refused>
+        ensures granted { is_ok result ≡ takes self.old row }
+        ensures answer { result ≡ admits self.old row }
+        ensures rows { rows_of self.new ≡ (if is_ok result then rows_of self.old ++ (fields row ∷ []) else rows_of self.old) }
         ensures reach { self.new.reach ≡ self.old.reach }
         ensures numbers { self.new.numbers ≡ self.old.numbers }
     {
-        if self.len >= self.reach {
-            return false;
-        }
-        if !keeps_bounds(self.numbers, self.reach, row) {
-            return false;
-        }
+        self.admit(row)?;
         self.rows[self.len] = row;
         self.len += 1;
-        true
+        Ok(())
     }
 }

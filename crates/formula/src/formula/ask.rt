@@ -30,20 +30,17 @@ impl Formula {
         self.code.moves()
     }
 
-    // Whether there is a record of this number.
-    fn has_record(&self, number: usize) -> bool
-        ensures { result ≡ nat_lt number self.now.header.records }
+    // Where each record begins, in order.
+    fn starts(&self) -> &[usize]
+        ensures { result.now ≡ starts_of self.now }
     {
-        number < self.header.records() as usize
+        &self.starts[..usize::from(self.header.records())]
     }
 
     // Where the record of this number begins.
     pub fn start(&self, number: usize) -> Option<usize>
         ensures { result ≡ slice_get (starts_of self.now) number }
     {
-        if !self.has_record(number) {
-            return None;
-        }
-        Some(self.starts[number])
+        self.starts().get(number).copied()
     }
 }

@@ -9,7 +9,7 @@ ghost use Rattle.formula.specs.Outcome.{formula_read, read_as, Answered};
 ghost use Rattle.formula.specs.Worked.{Worked};
 
 use super::Formula;
-use super::rows::read_rows;
+use super::rows::{Body, read_rows};
 use crate::fault::FormulaFault;
 use crate::header::{Header, read_header};
 use code::Code;
@@ -19,7 +19,11 @@ use liveness::first_undefined;
 fn empty_code(header: &Header) -> Code
     ensures { (rows_of result ≡ []) × (result.reach ≡ header.now.records) × (result.numbers ≡ 32 + header.now.values) }
 {
-    Code::new(32 + header.values() as usize, header.records() as usize).unwrap()
+    Code::new(
+        32 + usize::from(header.values()),
+        usize::from(header.records()),
+    )
+    .unwrap()
 }
 
 // Nothing remains behind the place where the records end, and the last of them goes nowhere.
@@ -39,23 +43,29 @@ fn last_record(len: usize, end: usize, closed: bool, last: usize) -> Result<(), 
 fn last_rule(formula: Formula) -> Result<Formula, FormulaFault>
     ensures { MatchResult result (λ f. (f ≡ formula) × AllDefined (rows_of formula.code)) (λ e. (number_of e ≡ 12) × LowestUndefined (rows_of formula.code) (place_of e)) }
 {
-    match first_undefined(formula.code()) {
-        Some(value) => Err(FormulaFault::UsedBeforeSet { value }),
-        None => Ok(formula),
-    }
+    first_undefined(formula.code()).map_or(
+        Ok(formula),
+        |value| Err(FormulaFault::UsedBeforeSet { value }),
+    )
 }
 
 // The formula that these bytes are by every rule but the last: whether values are set before they are used is not looked at.
+#[tactic(auto, unfolding(crate::specs::Formulas::formula_at))]
 pub fn read_written(bytes: &[u8]) -> Result<Formula, FormulaFault>
     ensures { formula_read bytes.now result ≡ formula_at bytes.now }
 {
     let header = read_header(bytes)?;
-    let body = read_rows(&header.limits(), bytes, header.end(), empty_code(&header))?;
-    last_record(bytes.len(), body.end, body.closed, body.last)?;
-    let starts = body.starts;
+    let Body {
+        code,
+        starts,
+        last,
+        closed,
+        end,
+    } = read_rows(&header.limits(), bytes, header.end(), empty_code(&header))?;
+    last_record(bytes.len(), end, closed, last)?;
     Ok(Formula {
         header,
-        code: body.code,
+        code,
         starts,
     })
 }

@@ -13,6 +13,7 @@ use records::reader::Reader;
 pub struct Body {
     pub code: Code,
     pub starts: [usize; 128],
+    // both stand whether the last record is closed or not: the definition names its place either way
     pub last: usize,
     pub closed: bool,
     pub end: usize,
@@ -40,12 +41,13 @@ pub fn read_rows(
     let mut starts = [0; 128];
     let mut last = at;
     let mut closed = false;
-    for i in 0..count {
+    for start in &mut starts[..count] {
         last = reader.place();
         let row = reader.record(limits)?.to_row();
+        // there is room for as many rows as are read, and each keeps the bounds
         let _granted = code.push(row);
-        starts[i] = last;
-        closed = (row.kind() == 4) | (row.kind() == 7);
+        *start = last;
+        closed = row.goes_nowhere();
     }
     Ok(Body {
         code,

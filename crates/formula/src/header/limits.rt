@@ -9,7 +9,7 @@ impl Header {
     pub fn end(&self) -> usize
         ensures { result ≡ 6 + whole_bytes self.now.values }
     {
-        6 + (self.values as usize + 7) / 8
+        6 + usize::from(self.values).div_ceil(8)
     }
 
     // What the records of the formula may hold.

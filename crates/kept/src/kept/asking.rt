@@ -3,9 +3,9 @@ ghost use Rattle.std.specs.Prelude.{◌≡◌, ℕ, ◌<◌, not, ◌&&◌, if�
 ghost use Rattle.session_laws.specs.Calls.{refused, Outcome};
 ghost use Rattle.session_laws.specs.Base.{fixed};
 ghost use Rattle.session_laws.specs.Outcomes.{at_vertex, low_degree, some_loose};
-ghost use Rattle.session_laws.specs.State.{has_pending, holds_temporary, move_at, waits as waits_for, Emptiable};
+ghost use Rattle.session_laws.specs.State.{has_pending, holds_temporary, Emptiable};
 ghost use Rattle.kept.specs.Answers.{answer};
-ghost use Rattle.kept.specs.Kept.{base_of, state_of, noted_in};
+ghost use Rattle.kept.specs.Kept.{base_of, state_of};
 
 use super::Kept;
 use crate::refusal::Refusal;
@@ -42,19 +42,19 @@ impl Kept {
     pub(crate) fn may_simplify(&self, v: usize) -> bool
         ensures { result ≡ ((not (fixed (base_of self.now) v) && low_degree (base_of self.now) (state_of self.now) v) && not (has_pending (state_of self.now) v)) }
     {
-        !self.is_fixed(v) & self.is_light(v) & !self.has_pending(v)
+        !self.is_fixed(v) && self.is_light(v) && !self.has_pending(v)
     }
 
     pub(crate) fn may_freeze(&self, v: usize) -> bool
         ensures { result ≡ ((not (fixed (base_of self.now) v) && low_degree (base_of self.now) (state_of self.now) v) && has_pending (state_of self.now) v) }
     {
-        !self.is_fixed(v) & self.is_light(v) & self.has_pending(v)
+        !self.is_fixed(v) && self.is_light(v) && self.has_pending(v)
     }
 
     pub(crate) fn may_push(&self, v: usize) -> bool
         ensures { result ≡ ((not (fixed (base_of self.now) v) && not (some_loose (base_of self.now) (state_of self.now) (low_degree (base_of self.now) (state_of self.now)))) && not (holds_temporary (base_of self.now) (state_of self.now) v)) }
     {
-        !self.is_fixed(v) & !self.any_light() & !self.holds_temporary(v)
+        !self.is_fixed(v) && !self.any_light() && !self.holds_temporary(v)
     }
 
     // A call that names a vertex: the number is checked, then whether it stands, then the condition of the call.
@@ -74,39 +74,21 @@ impl Kept {
         }
     }
 
-    // Whether the move m is pending and has an end in the group v.
-    pub(crate) fn waits(&self, m: usize, v: usize) -> bool
-        requires { m < noted_in self.now }
-        ensures { result ≡ waits_for (state_of self.now).table v (move_at (state_of self.now) m) }
-    {
-        let waiting = self.moves[m];
-        let ends = (self.standing.group(waiting.one) == v)
-            | (self.standing.group(waiting.other) == v);
-        waiting.pending & ends
-    }
-
     // Whether the group v has a pending move.
     pub(crate) fn has_pending(&self, v: usize) -> bool
         ensures { result ≡ has_pending (state_of self.now) v }
     {
-        for m in 0..self.noted {
-            if self.waits(m, v) {
-                return true;
-            }
-        }
-        false
+        self.moves
+            .as_slice()
+            .iter()
+            .any(|m| m.waits(&self.standing, v))
     }
 
     // Whether a member of the group v is a temporary.
     pub(crate) fn holds_temporary(&self, v: usize) -> bool
         ensures { result ≡ holds_temporary (base_of self.now) (state_of self.now) v }
     {
-        let n = self.standing.size();
-        for w in 0..n {
-            if self.temporaries.contains(w) & (self.standing.group(w) == v) {
-                return true;
-            }
-        }
-        false
+        (0..self.standing.size()).any(|w| self.temporaries.contains(w)
+            && self.standing.group(w) == v)
     }
 }

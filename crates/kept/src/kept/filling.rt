@@ -1,11 +1,9 @@
 // Giving out the registers at the end.
-ghost use Rattle.std.specs.Prelude.{◌≡◌, ◌≤◌, length};
+ghost use Rattle.std.specs.Prelude.{length};
 ghost use Rattle.session_laws.specs.Calls.{colour as colouring_call};
 ghost use Rattle.session_laws.specs.Colouring.{register_of};
-ghost use Rattle.session_laws.specs.Outcomes.{outcome};
-ghost use Rattle.session_laws.specs.Runs.{called};
 ghost use Rattle.kept.specs.Answers.{colour_answer, Filled};
-ghost use Rattle.kept.specs.Kept.{base_of, state_of};
+ghost use Rattle.kept.specs.Kept.{base_of, state_of, ByRules};
 
 use super::Kept;
 use crate::refusal::Refusal;
@@ -14,8 +12,7 @@ use colouring::{fill, paint};
 impl Kept {
     // Writes the register of each vertex into the first 512 bytes of a table: 255 for none.
     pub fn colour(&self, table: &mut [u8]) -> Result<(), Refusal>
-        ensures answer { colour_answer (register_of (base_of self.now) (state_of self.now)) result ≡ outcome (base_of self.now) (state_of self.now) (colouring_call (length table.old)) }
-        ensures state { state_of self.now ≡ called (base_of self.now) (state_of self.now) (colouring_call (length table.old)) }
+        ensures rules { ByRules self.now self.now (colouring_call (length table.old)) (colour_answer (register_of (base_of self.now) (state_of self.now)) result) }
         ensures table { Filled (register_of (base_of self.now) (state_of self.now)) table.old table.new result }
     {
         if table.len() < 512 {
@@ -24,7 +21,7 @@ impl Kept {
         if self.standing.any_loose() {
             return Err(Refusal::TooEarly);
         }
-        let groups = paint(&self.standing, &self.removed, self.top);
+        let groups = paint(&self.standing, &self.removed.groups, self.removed.top);
         fill(&self.standing, &groups, table);
         Ok(())
     }

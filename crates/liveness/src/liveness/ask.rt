@@ -5,10 +5,8 @@ ghost use Rattle.liveness.specs.Found.{before_of, after_of, undefined_in};
 
 use super::Liveness;
 use crate::flow::set_at;
+use code::FIRST_VALUE;
 use numbers::NumberSet;
-
-// Numbers below it are registers, all others are values.
-const FIRST_VALUE: usize = 32;
 
 impl Liveness {
     // The numbers live before the row at a place; none past the last row.
@@ -29,9 +27,7 @@ impl Liveness {
     pub fn first_undefined(&self) -> Option<u16>
         ensures { result ≡ undefined_in self.now }
     {
-        match self.before(0).next(FIRST_VALUE) {
-            Some(value) => Some(value as u16),
-            None => None,
-        }
+        // narrows; proved to fit
+        self.before(0).next(FIRST_VALUE).map(|value| value as u16)
     }
 }

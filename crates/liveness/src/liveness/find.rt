@@ -1,5 +1,5 @@
 // Live numbers from the rows of code.
-ghost use Rattle.std.specs.Prelude.{◌≡◌, ℕ, length, Decides, MatchOption};
+ghost use Rattle.std.specs.Prelude.{◌≡◌, ℕ, Decides, MatchOption};
 ghost use Rattle.code.specs.Codes.{rows_of};
 ghost use Rattle.liveness.specs.Families.{in_set, ahead};
 ghost use Rattle.liveness.specs.Found.{before_of, after_of, undefined_in};
@@ -14,12 +14,11 @@ use code::Code;
 use numbers::NumberSet;
 
 // Fills in what is live after each row.
-fn look_ahead(code: &Code, before: &[NumberSet], after: &mut [NumberSet])
-    requires { length after.old ≡ 512 }
+fn look_ahead(code: &Code, before: &[NumberSet; 512], after: &mut [NumberSet; 512])
     ensures { (i v : ℕ) → in_set after.new i v ≡ ahead (rows_of code.now) i (λ j. in_set before.now j v) }
 {
-    for place in 0..after.len() {
-        after[place] = set_after(code, before, place);
+    for (place, set) in after.iter_mut().enumerate() {
+        *set = set_after(code, before, place);
     }
 }
 

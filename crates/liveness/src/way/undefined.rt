@@ -9,7 +9,7 @@ use crate::liveness::Liveness;
 use code::Code;
 
 // The lowest value live before the first row, and how many rows a shortest way to a row that reads it has.
-#[derive(Clone, Copy)]
+#[derive(Clone, Copy, Debug, Eq, PartialEq)]
 pub struct Undefined {
     pub value: u16,
     pub rows: usize,
@@ -19,8 +19,7 @@ pub struct Undefined {
 pub fn first_undefined(code: &Code) -> Option<u16>
     ensures { MatchOption result (AllDefined (rows_of code.now)) (LowestUndefined (rows_of code.now)) }
 {
-    let live = Liveness::of(code);
-    live.first_undefined()
+    Liveness::of(code).first_undefined()
 }
 
 // The lowest value live before the first row, with a shortest way written down; where there is none, nothing is written.
@@ -30,11 +29,7 @@ pub fn find_undefined(code: &Code, way: &mut [u16; 512]) -> Option<Undefined>
     ensures within { IfSome result (λ u. u.rows ≤ 512) }
     ensures rest { MatchOption result (way.new ≡ way.old) (λ u. drop u.rows way.new ≡ drop u.rows way.old) }
 {
-    let Some(value) = first_undefined(code) else {
-        return None;
-    };
-    let Some(rows) = find_way(code, value, way) else {
-        return None;
-    };
+    let value = first_undefined(code)?;
+    let rows = find_way(code, value, way)?;
     Some(Undefined { value, rows })
 }

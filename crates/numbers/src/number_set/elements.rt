@@ -22,6 +22,7 @@ impl NumberSet {
     }
 
     // Puts n in, or answers false where n is too large for a set.
+    // A flag and no Result: all who put a number in know that it fits, and would only drop the refusal.
     pub fn insert(&mut self, n: usize) -> bool
         ensures answer { result ≡ nat_lt n 512 }
         ensures after { (k : ℕ) → has self.new k ≡ (has self.old k || (nat_lt n 512 && k == n)) }
@@ -59,5 +60,13 @@ impl NumberSet {
         } else {
             self.words[n / 64] &= !digit;
         }
+    }
+}
+
+impl Default for NumberSet {
+    ghost is_default = { λ set. (k : ℕ) → has set k ≡ false };
+
+    fn default() -> NumberSet {
+        NumberSet::new()
     }
 }

@@ -2,6 +2,7 @@
 ghost use Rattle.std.specs.Prelude.{◌≡◌, ℕ, ◌+◌, ◌-◌, ◌*◌, ◌/◌, ◌<◌, ◌≤◌, true, false, IfSome, IfNone};
 ghost use Rattle.numbers.specs.Counting.{count, first};
 ghost use Rattle.numbers.specs.Sets.{has};
+ghost use Rattle.numbers.specs.Words.{bit};
 
 use super::NumberSet;
 
@@ -18,14 +19,11 @@ impl NumberSet {
         ensures value { result ≡ count (has self.now) 512 }
         ensures bound { result ≤ 512 }
     {
-        let mut total = 0;
-        for i in 0..8 {
-            total += self.len_in_word(i);
-        }
-        total
+        self.words.iter().map(|w| digits_in(*w)).sum()
     }
 
     // The lowest member that is not below `from`.
+    // It goes from word to word: a chain over the numbers would go from digit to digit.
     pub fn next(&self, from: usize) -> Option<usize>
         ensures value { result ≡ first (has self.now) from (512 - from) }
         ensures none { IfNone result ((k : ℕ) → from ≤ k → has self.now k ≡ false) }
@@ -41,15 +39,6 @@ impl NumberSet {
         None
     }
 
-    // How many members the word at i holds.
-    fn len_in_word(&self, i: usize) -> usize
-        requires { i < 8 }
-        ensures more { count (has self.now) (i * 64) + result ≡ count (has self.now) ((i + 1) * 64) }
-        ensures bound { result ≤ 64 }
-    {
-        self.words[i].count_ones() as usize
-    }
-
     // The lowest member from `from` on among those in its own word.
     fn next_in_word(&self, from: usize) -> Option<usize>
         requires { from < 512 }
@@ -60,6 +49,16 @@ impl NumberSet {
         if rest == 0 {
             return None;
         }
+        // as in `digits_in`
         Some(from + rest.trailing_zeros() as usize)
     }
+}
+
+// How many digits of a word are set.
+fn digits_in(word: u64) -> usize
+    ensures value { result ≡ count (bit word) 64 }
+    ensures bound { result ≤ 64 }
+{
+    // Rust has no `From<u32>` for `usize`; proved to fit
+    word.count_ones() as usize
 }

@@ -1,38 +1,14 @@
-use Rattle.std.proofs.Common.{◌≡◌, ◌+◌, ◌≤◌, sym, subst, arith}
+use Rattle.std.proofs.Common.{◌≡◌, ◌≤◌, rules, arith}
 use Rattle.graph.specs.Shape.{Shape, Lawful}
 use Rattle.numbers.specs.Sets.{has}
-use Rattle.numbers.specs.declared.number_set.NumberSet.{NumberSet}
-use Rattle.reading.proofs.Reading.{ReadBelow, read_then, read_else, read_start, read_all}
+use Rattle.numbers.proofs.Picking.{picked}
 use Rattle.reading.proofs.vertices_of.Goals as goal
-use Rattle.reading.proofs.vertices_of.Goals.{then-stands, else-stands}
-
-pub loop-v-init : goal.loop-v-init
-loop-v-init g c =
-    let s : Shape = (g.H.Graph.means c.args.graph.now).shape in
-    (c.size-n.ensures, read_start s.stands (has c.new-vertices.result) c.new-vertices.ensures)
-
-pub loop-v-preserved : goal.loop-v-preserved
-loop-v-preserved g c =
-    let s : Shape = (g.H.Graph.means c.args.graph.now).shape in
-    let n : c.size-n.result ≡ s.size = c.loop-v.invariant.0 in
-    let most : s.size ≤ 512 = (g.H.Graph.lawful c.args.graph.now).most in
-    let p = s.stands in
-    elim c.if-stands.branch [
-      | then-stands w ↦ (
-        n,
-        subst (λ (r : NumberSet). ReadBelow p (has r) (c.loop-v.v + 1)) (sym w.vertices-is)
-            (read_then p (has c.loop-v.vertices) (has w.insert.new.self) c.loop-v.v (omega arith) (sym w.if-stands.ensures) c.loop-v.invariant.1 w.insert.ensures.after),
-      )
-      | else-stands w ↦ (
-        n,
-        subst (λ (r : NumberSet). ReadBelow p (has r) (c.loop-v.v + 1)) (sym w.vertices-is)
-            (read_else p (has c.loop-v.vertices) c.loop-v.v (sym w.if-stands.ensures) c.loop-v.invariant.1),
-      )
-    ]
 
 pub returns : goal.returns
 returns g c =
     let s : Shape = (g.H.Graph.means c.args.graph.now).shape in
     let l : Lawful s = g.H.Graph.lawful c.args.graph.now in
-    let n : c.size-n.result ≡ s.size = c.loop-v.invariant.0 in
-    read_all s.stands (has c.loop-v.vertices) s.size c.loop-v.v (omega arith) l.inside c.loop-v.invariant.1
+    let most : s.size ≤ 512 = l.most in
+    let n : c.size.result ≡ s.size = c.size.ensures in
+    picked _ _ (has c.of.result) s.stands c.of.ensures (λ k b e. search rules)
+    (λ k t. let here = l.inside k t in omega arith)

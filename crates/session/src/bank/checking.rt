@@ -9,8 +9,8 @@ impl Bank {
     pub fn new(class: Class, registers: usize) -> Result<Bank, BadBank>
         ensures { Checked class registers result }
     {
-        if (registers < 1) | (registers > 16) {
-            return Err(BadBank {});
+        if registers < 1 || registers > 16 {
+            return Err(BadBank);
         }
         Ok(Bank { class, registers })
     }

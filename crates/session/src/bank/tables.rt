@@ -6,24 +6,21 @@ ghost use Rattle.session.specs.Banks.{bank_of};
 
 use super::Bank;
 use graph::class::Class;
+use std::array;
 
 impl Bank {
     pub(crate) fn is_register(self, v: usize) -> bool
         ensures { result ≡ is_register (bank_of self) v }
     {
         let first = self.first();
-        (first <= v) & (v < first + self.registers)
+        (first..first + self.registers).contains(&v)
     }
 
     // A flag for each register of the bank.
     pub(crate) fn flags(self) -> [bool; 512]
         ensures { (v : ℕ) → flag result v ≡ is_register (bank_of self) v }
     {
-        let mut flags = [false; 512];
-        for v in 0..512 {
-            flags[v] = self.is_register(v);
-        }
-        flags
+        array::from_fn(|v| self.is_register(v))
     }
 
     // The class of v: below 32 only the bank's registers have one.
@@ -33,20 +30,12 @@ impl Bank {
         if v >= 32 {
             return given;
         }
-        if self.is_register(v) {
-            Some(self.class)
-        } else {
-            None
-        }
+        self.is_register(v).then_some(self.class)
     }
 
     pub(crate) fn classes_under(self, classes: &[Option<Class>; 512]) -> [Option<Class>; 512]
         ensures { (v : ℕ) → class_at result v ≡ under_bank (bank_of self) (class_at classes.now) v }
     {
-        let mut under = *classes;
-        for v in 0..512 {
-            under[v] = self.class_at(under[v], v);
-        }
-        under
+        array::from_fn(|v| self.class_at(classes[v], v))
     }
 }

@@ -1,3 +1,5 @@
+#![tactic(auto, unfolding(crate::specs::Standing::base_of, crate::specs::Standing::board_of, crate::specs::Standing::graph_of, crate::specs::Standing::is_left))]
+
 // What can be asked of the standing graph.
 ghost use Rattle.std.specs.Prelude.{◌≡◌, ℕ};
 ghost use Rattle.graph.specs.Counting.{any};
@@ -54,7 +56,7 @@ impl Standing {
     pub fn is_fixed(&self, v: usize) -> bool
         ensures { result ≡ fixed_in self.now v }
     {
-        (self.first <= v) & (v < self.first + self.registers) & self.board.is_vertex(v)
+        (self.first..self.first + self.registers).contains(&v) && self.board.is_vertex(v)
     }
 
     // The neighbours of u.
@@ -90,39 +92,43 @@ impl Standing {
     pub fn is_loose(&self, v: usize) -> bool
         ensures { result ≡ loose_in self.now v }
     {
-        self.stands(v) & !self.is_fixed(v)
+        self.stands(v) && !self.is_fixed(v)
+    }
+
+    // All fixed vertices.
+    pub(super) fn fixed(&self) -> NumberSet
+        ensures { (v : ℕ) → has result v ≡ fixed_in self.now v }
+    {
+        let end = NumberSet::below(self.first + self.registers);
+        let bank = end.difference(&NumberSet::below(self.first));
+        bank.intersection(&self.board.vertices())
+    }
+
+    // All loose vertices that stand.
+    pub(super) fn loose(&self) -> NumberSet
+        ensures { (v : ℕ) → has result v ≡ loose_in self.now v }
+    {
+        self.left.difference(&self.fixed())
     }
 
     // Whether any loose vertex stands.
     pub fn any_loose(&self) -> bool
         ensures { result ≡ any (loose_in self.now) (graph_of self.now).size }
     {
-        let n = self.size();
-        for v in 0..n {
-            if self.is_loose(v) {
-                return true;
-            }
-        }
-        false
+        !self.loose().is_empty()
     }
 
     // Whether any loose vertex is light.
     pub fn any_light(&self) -> bool
         ensures { result ≡ any (light_loose self.now) (graph_of self.now).size }
     {
-        let n = self.size();
-        for v in 0..n {
-            if self.is_loose(v) & self.is_light(v) {
-                return true;
-            }
-        }
-        false
+        self.loose().iter().any(|v| self.is_light(v))
     }
 
     // Whether v is fixed or has as many neighbours as there are registers, so that simplify does not take it away.
     pub fn is_significant(&self, v: usize) -> bool
         ensures { result ≡ significant (fixed_in self.now) (registers_of self.now) (graph_of self.now) v }
     {
-        self.is_fixed(v) | (self.degree(v) >= self.registers)
+        self.is_fixed(v) || self.degree(v) >= self.registers
     }
 }

@@ -1,3 +1,5 @@
+#![tactic(auto, unfolding(crate::specs::Standing::base_of, crate::specs::Standing::board_of, crate::specs::Standing::is_left))]
+
 // Opening, removing, merging.
 ghost use Rattle.std.specs.Prelude.{◌≡◌, ℕ, not, ◌&&◌, ◌==◌};
 ghost use Rattle.session_laws.specs.Base.{SoundBase};

@@ -1,75 +1,48 @@
 // The tests for merging two vertices.
-ghost use Rattle.std.specs.Prelude.{◌≡◌, ℕ, ◌≤◌, not, ◌&&◌, ◌||◌, length, replicate};
+ghost use Rattle.std.specs.Prelude.{◌≡◌, ℕ, ◌<◌, true, ◌&&◌};
 ghost use Rattle.graph.specs.Counting.{count};
-ghost use Rattle.session_laws.specs.Tests.{briggs as briggs_test, george as george_test, may_merge};
-ghost use Rattle.standing.specs.Standing.{graph_of, fixed_in, registers_of, weighty, marked};
 ghost use Rattle.numbers.specs.Sets.{has};
+ghost use Rattle.session_laws.specs.Tests.{significant, briggs as briggs_test, george as george_test, may_merge};
+ghost use Rattle.standing.specs.Standing.{graph_of, fixed_in, registers_of};
 
 use super::Standing;
 use numbers::NumberSet;
 
 impl Standing {
-    // Whether w is in the row and significant.
-    fn weighs(&self, row: &NumberSet, w: usize) -> bool
-        ensures { result ≡ weighty self.now (has row.now) w }
+    // How many of a set are significant.
+    fn significant_among(&self, set: &NumberSet) -> usize
+        requires { (w : ℕ) → has set.now w ≡ true → w < (graph_of self.now).size }
+        ensures { result ≡ count (λ w. has set.now w && significant (fixed_in self.now) (registers_of self.now) (graph_of self.now) w) (graph_of self.now).size }
     {
-        row.contains(w) & self.is_significant(w)
-    }
-
-    // Counts the significant neighbours of u that are not marked, and marks them.
-    fn count_new(&self, u: usize, marks: &mut [u8]) -> usize
-        requires { 512 ≤ length marks.old }
-        ensures found { result ≡ count (λ w. weighty self.now ((graph_of self.now).joined u) w && not (marked marks.old w)) (graph_of self.now).size }
-        ensures bound { result ≤ 512 }
-        ensures marks { (w : ℕ) → marked marks.new w ≡ (marked marks.old w || weighty self.now ((graph_of self.now).joined u) w) }
-    {
-        let row = self.row(u);
-        let n = self.size();
-        let mut found = 0;
-        for w in 0..n {
-            if (marks[w] == 0) & self.weighs(&row, w) {
-                marks[w] = 1;
-                found += 1;
-            }
-        }
-        found
+        set.iter().filter(|w| self.is_significant(*w)).count()
     }
 
     // Briggs's test: u and v have together fewer different significant neighbours than there are registers.
-    pub fn briggs(&self, u: usize, v: usize, marks: &mut [u8]) -> bool
-        requires { (512 ≤ length marks.old) × (marks.old ≡ replicate (length marks.old) 0) }
+    pub fn briggs(&self, u: usize, v: usize) -> bool
         ensures { result ≡ briggs_test (fixed_in self.now) (registers_of self.now) (graph_of self.now) u v }
     {
-        let near = self.count_new(u, marks);
-        let more = self.count_new(v, marks);
-        near + more < self.registers
+        let near = self.row(u).union(&self.row(v));
+        self.significant_among(&near) < self.registers
     }
 
     // George's test: every significant neighbour of v is joined to u.
     pub fn george(&self, u: usize, v: usize) -> bool
         ensures { result ≡ george_test (fixed_in self.now) (registers_of self.now) (graph_of self.now) u v }
     {
-        let row = self.row(v).difference(&self.row(u));
-        let n = self.size();
-        for w in 0..n {
-            if self.weighs(&row, w) {
-                return false;
-            }
-        }
-        true
+        let beyond = self.row(v).difference(&self.row(u));
+        !beyond.iter().any(|w| self.is_significant(w))
     }
 
     // George's test where one of the two is fixed, else Briggs's.
-    pub fn may_merge(&self, u: usize, v: usize, marks: &mut [u8]) -> bool
-        requires { (512 ≤ length marks.old) × (marks.old ≡ replicate (length marks.old) 0) }
+    pub fn may_merge(&self, u: usize, v: usize) -> bool
         ensures { result ≡ may_merge (fixed_in self.now) (registers_of self.now) (graph_of self.now) u v }
     {
         if self.is_fixed(u) {
-            return self.george(u, v);
+            self.george(u, v)
+        } else if self.is_fixed(v) {
+            self.george(v, u)
+        } else {
+            self.briggs(u, v)
         }
-        if self.is_fixed(v) {
-            return self.george(v, u);
-        }
-        self.briggs(u, v, marks)
     }
 }

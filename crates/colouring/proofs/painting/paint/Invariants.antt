@@ -4,8 +4,8 @@ use Rattle.standing.specs.Standing.{base_of}
 use Rattle.colouring.specs.Painting.{read_at, merged_under}
 use Rattle.colouring.proofs.painting.paint.Given as goal
 
-abbrev pub invariant-loop-i : goal.invariant-loop-i
-invariant-loop-i l =
-    (length l.groups ≡ 512) ×
-    (painted (base_of l.standing) (merged_under l.standing) (read_at l.groups) (drop l.i l.removed) ≡
-    painted (base_of l.standing) (merged_under l.standing) (own_number (base_of l.standing)) (drop l.top l.removed))
+abbrev pub invariant-loop-v : goal.invariant-loop-v
+invariant-loop-v l =
+    (length l.groups ≡ 512) × (l.last ≡ drop l.top l.removed) ×
+    (painted (base_of l.standing) (merged_under l.standing) (read_at l.groups) (drop l.v-index l.last) ≡
+    painted (base_of l.standing) (merged_under l.standing) (own_number (base_of l.standing)) l.last)

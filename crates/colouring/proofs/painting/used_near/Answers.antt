@@ -1,53 +1,59 @@
-use Rattle.std.proofs.Common.{◌≡◌, ℕ, ◌<◌, ◌≤◌, Bool, ◌&&◌, ◌||◌, eqb, ltb, length, sym, ap, ◌∙◌, ap₂, arith}
+use Rattle.std.proofs.Common.{◌≡◌, ℕ, Bool, ◌&&◌, eqb, sym, ap, ◌∙◌}
 use mathlib.Core.Path.{fun_ext}
 use Rattle.board.specs.Boards.{merged_graph}
 use Rattle.board.specs.declared.board.Board.{Board}
+use Rattle.board.proofs.Boards.{merged_lawful}
 use Rattle.graph.specs.Counting.{any}
+use Rattle.numbers.specs.Iterating.{source, place, given}
 use Rattle.numbers.specs.Sets.{has}
-use Rattle.standing.specs.Standing.{board_of, graph_of}
-use Rattle.standing.proofs.Shapes.{graph_lawful}
-use Rattle.std.proofs.lemmas.List.{get_or_default}
-use Rattle.colouring.specs.Painting.{merged_under, read_at}
-use Rattle.colouring.proofs.Registers.{used_then, used_else}
 use Rattle.numbers.specs.declared.number_set.NumberSet.{NumberSet}
-use Rattle.colouring.proofs.painting.used_near.Goals.{then-contains, else-contains}
+use Rattle.numbers.proofs.Going.{given_none, given_one, given_all}
+use Rattle.session_laws.proofs.Cores.{far_inside}
+use Rattle.session_laws.specs.Colouring.{or_none}
+use Rattle.standing.specs.Standing.{board_of}
+use Rattle.colouring.specs.Painting.{merged_under, read_at}
+use Rattle.colouring.proofs.Registers.{used_none, used_one, takes_none, takes_one, not_some}
 use Rattle.colouring.proofs.painting.used_near.Goals as goal
 
-pub bounds-groups-w : goal.bounds-groups-w
-bounds-groups-w c =
-    let most : (graph_of c.args.standing.now).size ≤ 512 = (graph_lawful c.args.standing.now).most in
-    let n : c.size-n.result ≡ (graph_of c.args.standing.now).size = c.loop-w.invariant.0 in
-    omega arith
+pub loop-w-init : goal.loop-w-init
+loop-w-init c =
+    let same = c.into_iter-w-iterator.ensures.into_iter_gives in
+    let set = ap source same ∙ c.iter-w-items.ensures.set in (
+      λ k. ap (λ (s : NumberSet). has s k) set ∙ (c.row-row.ensures k ∙ ap (λ (b : Board). (merged_graph b).joined c.args.v k) c.board.ensures),
+      used_none _ _ _ _ (λ k. given_none c.into_iter-w-iterator.result k (ap place same ∙ c.iter-w-items.ensures.start)) c.new-used.ensures,
+    )
 
 pub loop-w-preserved : goal.loop-w-preserved
 loop-w-preserved c =
-    let p = has c.row-row.result in
-    let registers = read_at c.args.groups.now in
-    let i = c.loop-w.w in
-    let most : (graph_of c.args.standing.now).size ≤ 512 = (graph_lawful c.args.standing.now).most in
-    let n : c.size-n.result ≡ (graph_of c.args.standing.now).size = c.loop-w.invariant.0 in
-    let inside : i < length c.args.groups.now = omega arith in
-    elim c.if-contains.branch [
-      | then-contains w ↦ (
-        n,
-        λ r l.
-            let byte : w.from.result ≡ registers i = w.from.ensures ∙ get_or_default c.args.groups.now i 0 255 inside in
-            ap (λ (s : NumberSet). has s r) w.used-is ∙ (w.insert.ensures.after r ∙ (ap (λ (g : ℕ). has c.loop-w.used r || (ltb g 512 && eqb r g)) byte ∙
-            used_then p registers i r (has c.loop-w.used r) l (sym w.if-contains.ensures) (c.loop-w.invariant.1 r l))),
-      )
-      | else-contains w ↦ (
-        n,
-        λ r l.
-            ap (λ (s : NumberSet). has s r) w.used-is ∙ used_else p registers i r (has c.loop-w.used r) (sym w.if-contains.ensures) (c.loop-w.invariant.1 r l),
-      )
-    ]
+    let s = c.args.standing.now in
+    let steps = c.in-Some.ensures.steps in
+    let w = c.in-Some.w in
+    let joined = sym (c.loop-w.invariant.0 w) ∙ steps.2.3 in (
+      λ k. ap (λ (s : NumberSet). has s k) steps.0 ∙ c.loop-w.invariant.0 k,
+      used_one (given c.loop-w.w-iterator) (given c.next.new.self) c.args.groups.now (merged_under s).size w (has c.loop-w.used) (has c.loop-w.used)
+          (far_inside (merged_under s) (merged_lawful (board_of s)) c.args.v w joined)
+          (λ k. given_one c.loop-w.w-iterator c.next.new.self w k steps)
+          (λ r small. takes_none (has c.loop-w.used r) (read_at c.args.groups.now w) r (not_some _ c.in_default.not-Some) small)
+          c.loop-w.invariant.1,
+    )
+
+pub loop-w-preserved-in-Some-groups : goal.loop-w-preserved-in-Some-groups
+loop-w-preserved-in-Some-groups c =
+    let s = c.args.standing.now in
+    let steps = c.in-Some.ensures.steps in
+    let w = c.in-Some.w in
+    let joined = sym (c.loop-w.invariant.0 w) ∙ steps.2.3 in (
+      λ k. ap (λ (s : NumberSet). has s k) steps.0 ∙ c.loop-w.invariant.0 k,
+      used_one (given c.loop-w.w-iterator) (given c.next.new.self) c.args.groups.now (merged_under s).size w (has c.loop-w.used) (has c.insert.new.self)
+          (far_inside (merged_under s) (merged_lawful (board_of s)) c.args.v w joined)
+          (λ k. given_one c.loop-w.w-iterator c.next.new.self w k steps)
+          (λ r small. c.insert.ensures.after r ∙ takes_one (has c.loop-w.used r) (read_at c.args.groups.now w) r _ (ap or_none c.in-Some-groups.is ∙ sym c.from.ensures) small)
+          c.loop-w.invariant.1,
+    )
 
 pub returns : goal.returns
-unfolding graph_of board_of
-returns c r l =
+returns c r small =
     let s = c.args.standing.now in
-    let n : c.size-n.result ≡ (graph_of s).size = c.loop-w.invariant.0 in
-    let end : c.loop-w.w ≡ (graph_of s).size = omega arith in
-    let same : has c.row-row.result ≡ (merged_under s).joined c.args.v =
-    fun_ext (λ k. c.row-row.ensures k ∙ ap (λ (b : Board). (merged_graph b).joined c.args.v k) c.board.ensures) in
-    c.loop-w.invariant.1 r l ∙ ap₂ (λ (p : ℕ → Bool) (m : ℕ). any (λ k. p k && eqb (read_at c.args.groups.now k) r) m) same end
+    let all : given c.loop-w.w-iterator ≡ (merged_under s).joined c.args.v =
+    fun_ext (λ k. given_all c.loop-w.w-iterator c.next.new.self k c.in-None.ensures.steps ∙ c.loop-w.invariant.0 k) in
+    c.loop-w.invariant.1 r small ∙ ap (λ (p : ℕ → Bool). any (λ k. p k && eqb (read_at c.args.groups.now k) r) (merged_under s).size) all

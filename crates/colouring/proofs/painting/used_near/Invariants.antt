@@ -1,11 +1,11 @@
-use Rattle.std.proofs.Common.{◌≡◌, ℕ, ◌<◌, ◌&&◌, eqb}
-use Rattle.graph.specs.Counting.{any}
+use Rattle.std.proofs.Common.{◌≡◌, ℕ}
+use Rattle.numbers.specs.Iterating.{source, given}
 use Rattle.numbers.specs.Sets.{has}
-use Rattle.standing.specs.Standing.{graph_of}
-use Rattle.colouring.specs.Painting.{read_at}
+use Rattle.colouring.specs.Painting.{merged_under, read_at}
+use Rattle.colouring.proofs.Registers.{Used}
 use Rattle.colouring.proofs.painting.used_near.Given as goal
 
 abbrev pub invariant-loop-w : goal.invariant-loop-w
 invariant-loop-w l =
-    (l.n ≡ (graph_of l.standing).size) ×
-    ((r : ℕ) → r < 512 → has l.used r ≡ any (λ k. has l.row k && eqb (read_at l.groups k) r) l.w)
+    ((k : ℕ) → has (source l.w-iterator) k ≡ (merged_under l.standing).joined l.v k)
+    × Used (given l.w-iterator) (read_at l.groups) (merged_under l.standing).size (has l.used)

@@ -1,16 +1,16 @@
-use Rattle.std.proofs.Common.{ℕ, Bool, sym, ◌∙◌, arith}
-use Rattle.graph.proofs.Counting.{count_le, count_passed, count_failed}
+use Rattle.std.proofs.Common.{◌≡◌, ℕ, Bool, rules, length, ◌∙◌, ap, arith}
+use Rattle.std.proofs.lemmas.Iterator.{YieldsList-from_range}
+use Rattle.std.proofs.lemmas.Iterator.Consumers.{YieldsList-from_filter, count_from_yields_List}
+use borrow.Author.Tests.{tests}
+use Rattle.std.specs.List.{filter, range_with_len}
+use Rattle.graph.specs.Counting.{count}
+use Rattle.graph.proofs.Counting.{count_range}
 use Rattle.graph.proofs.Graph.degree.Goals as goal
-use Rattle.graph.proofs.Graph.degree.Goals.{then-joined, else-joined}
 
-pub overflow_add-found : goal.overflow_add-found
-overflow_add-found g c =
-    omega (arith, count_le ((g.Self.Graph.means c.args.self.now).shape.joined c.args.u) c.loop-v.v)
-
-pub loop-v-preserved : goal.loop-v-preserved
-loop-v-preserved g c =
+pub returns : goal.returns
+returns g c =
     let p : ℕ → Bool = (g.Self.Graph.means c.args.self.now).shape.joined c.args.u in
-    elim c.if-joined.branch [
-      | then-joined w ↦ w.found-is ∙ count_passed p c.loop-v.v c.loop-v.found c.loop-v.invariant (sym w.if-joined.ensures)
-      | else-joined w ↦ w.found-is ∙ count_failed p c.loop-v.v c.loop-v.found c.loop-v.invariant (sym w.if-joined.ensures)
-    ]
+    let chain : c.count.result ≡ length (filter p (range_with_len 0 c.size.result)) =
+    count_from_yields_List _ _ c.count.ensures.ran
+    (YieldsList-from_filter _ p (YieldsList-from_range 0 c.size.result c.size.result (cc) (omega arith)) c.filter.ensures.closure (λ x r q k. search (rules, tests))) in
+    chain ∙ (count_range p c.size.result ∙ ap (count p) c.size.ensures)

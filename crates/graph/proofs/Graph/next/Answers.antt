@@ -1,15 +1,13 @@
-use Rattle.std.proofs.Common.{ℕ, Bool, sym, ◌∙◌}
-use Rattle.graph.proofs.Counting.{first_here, first_later}
+use Rattle.std.proofs.Common.{ℕ, ◌-◌, Bool, true, false, ◌≡◌, rules, ◌∙◌, ap}
+use Rattle.std.proofs.lemmas.Iterator.{first_from_Range}
+use borrow.Author.Tests.{tests}
+use Rattle.graph.specs.Counting.{first}
+use Rattle.graph.proofs.Counting.{first_is}
 use Rattle.graph.proofs.Graph.next.Goals as goal
 
-pub returns-then-joined : goal.returns-then-joined
-returns-then-joined g c =
+pub returns : goal.returns
+returns g c =
     let p : ℕ → Bool = (g.Self.Graph.means c.args.self.now).shape.joined c.args.u in
-    let found = first_here p c.loop-v.v c.size-n.result c.loop-v-test.true (sym c.if-joined.ensures) in
-    let size = c.size-n.ensures in
-    sym (simp (sym size) (c.loop-v.invariant ∙ found))
-
-pub loop-v-preserved : goal.loop-v-preserved
-loop-v-preserved g c =
-    let p : ℕ → Bool = (g.Self.Graph.means c.args.self.now).shape.joined c.args.u in
-    c.loop-v.invariant ∙ first_later p c.loop-v.v c.size-n.result c.loop-v-test.true (sym c.if-joined.ensures)
+    first_is p c.args.from c.size.result c.find.result
+    (first_from_Range _ _ _ _ (λ x. p x ≡ true) (λ x. p x ≡ false) c.find.ensures.ran (λ x q k. search (rules, tests)) (λ x q k. search (rules, tests)))
+    ∙ ap (λ (n : ℕ). first p c.args.from (n - c.args.from)) c.size.ensures

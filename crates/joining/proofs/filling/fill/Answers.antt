@@ -1,8 +1,9 @@
 use Rattle.std.proofs.Common.{◌≡◌, ℕ, length, Err, sym, refl, ap, ◌∙◌, subst, arith}
+use Rattle.std.proofs.lemmas.Bool.Decides.{same_from_decides}
 use Rattle.std.proofs.lemmas.Result.{err_from_is_err_and}
 use Rattle.code.specs.Codes.{rows_of}
 use Rattle.allocation.specs.Interference.{edges_below, row_edges, edges_of, Filled, live_after}
-use Rattle.allocation.proofs.Living.{after_decides, same_test}
+use Rattle.allocation.proofs.Living.{after_decides}
 use Rattle.liveness.specs.Found.{after_of}
 use Rattle.joining.specs.Chains.JoinedOn.{unchanged}
 use Rattle.joining.proofs.Lists.{SoFar, goes_on, stops, edges_grow, joined_then}
@@ -14,7 +15,7 @@ loop-place-init g c = (record { fine = refl; left = refl }, unchanged)
 pub fill_row-requires : goal.fill_row-requires
 fill_row-requires g c = λ v.
     let rows = rows_of c.args.code.now in
-    same_test (after_of c.of-live.result c.loop-place.place v) (live_after rows c.loop-place.place v)
+    same_from_decides (after_of c.of-live.result c.loop-place.place v) (live_after rows c.loop-place.place v)
     (c.of-live.ensures.after c.loop-place.place v) (after_decides rows c.loop-place.place v)
 
 pub returns-in_err-fill_row : goal.returns-in_err-fill_row

@@ -1,8 +1,9 @@
-use Rattle.std.proofs.Common.{ℕ, List, sym, ap, ◌∙◌}
+use Rattle.std.proofs.Common.{ℕ, List, map, sym, ap, ◌∙◌}
 use Rattle.code.specs.Codes.{rows_of}
 use Rattle.code.specs.Rows.{fields}
+use Rattle.liveness.specs.Found.{after_of}
 use Rattle.numbers.specs.Sets.{has}
-use Rattle.allocation.specs.Interference.{Edge, row_edges, filled}
+use Rattle.allocation.specs.Interference.{Edge, edge, passing, row_edges, filled}
 use Rattle.joining.specs.Chains.JoinedOn.{unchanged}
 use Rattle.joining.proofs.Lists.{no_row, sets_none, row_joins}
 use Rattle.joining.proofs.filling.fill_row.Goals as goal
@@ -21,9 +22,10 @@ pub returns-in-Some-destination : goal.returns-in-Some-destination
 returns-in-Some-destination g c =
     let m = g.G.Graph.means c.args.graph.now in
     let same = row_joins (rows_of c.args.code.now) c.numbers.result c.args.place (fields c.in-Some.row) c.in-Some-destination.to
-    (sym c.in-Some.ensures.value) (sym c.in-Some-destination.ensures) (has c.neighbours.result) (has c.after.result)
-    c.neighbours.ensures (λ v. c.after.ensures v ∙ c.requires v) in
-    let all = same ∙ ap (λ (n : ℕ). row_edges (rows_of c.args.code.now) n c.args.place) c.numbers.ensures in
+    (sym c.in-Some.ensures.value) (sym c.in-Some-destination.ensures) (has c.neighbours.result) (after_of c.args.live.now c.args.place)
+    c.neighbours.ensures c.requires in
+    let wide = ap (λ (u : ℕ). map (edge u) (passing (has c.neighbours.result) c.numbers.result)) c.from.ensures in
+    let all = wide ∙ same ∙ ap (λ (n : ℕ). row_edges (rows_of c.args.code.now) n c.args.place) c.numbers.ensures in
     record {
       answer = c.join_all.ensures.answer ∙ ap (λ (es : List Edge). (filled m es).answer) all;
       after = c.join_all.ensures.after ∙ ap (λ (es : List Edge). (filled m es).left) all;

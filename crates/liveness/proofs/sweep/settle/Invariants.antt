@@ -1,10 +1,7 @@
-use Rattle.std.proofs.Common.{◌≡◌, length}
-use Rattle.code.specs.Codes.{rows_of}
-use Rattle.liveness.specs.Families.{Sound, lacking}
 use Rattle.liveness.proofs.sweep.settle.Given as goal
 
 abbrev pub invariant-loop : goal.invariant-loop
-invariant-loop l = (length l.before ≡ 512) × Sound (rows_of l.code) l.before
+invariant-loop g l = g.R.Rule.sound l.rule l.facts
 
 abbrev pub decreases-loop : goal.decreases-loop
-decreases-loop l = lacking l.before
+decreases-loop g l = g.R.Rule.left l.rule l.facts

@@ -1,10 +1,8 @@
-use Rattle.std.proofs.Common.{◌≡◌, ℕ, ◌<◌, ◌≤◌, true, false, length}
-use Rattle.code.specs.Codes.{rows_of}
-use Rattle.liveness.specs.Families.{Sound, Closed, lacking}
+use Rattle.std.proofs.Common.{◌≡◌, ℕ, ◌<◌, ◌≤◌, true, false}
 use Rattle.liveness.proofs.sweep.sweep.Given as goal
 
 abbrev pub invariant-loop-place : goal.invariant-loop-place
-invariant-loop-place l =
-    (length l.before ≡ 512) × Sound (rows_of l.code) l.before × (lacking l.before ≤ lacking l.initial.before)
-    × (l.grew ≡ true → lacking l.before < lacking l.initial.before)
-    × (l.grew ≡ false → (k : ℕ) → l.place ≤ k → k < length (rows_of l.code) → Closed (rows_of l.code) l.before k)
+invariant-loop-place g l =
+    g.R.Rule.sound l.rule l.facts × (g.R.Rule.left l.rule l.facts ≤ g.R.Rule.left l.rule l.initial.facts)
+    × (l.changed ≡ true → g.R.Rule.left l.rule l.facts < g.R.Rule.left l.rule l.initial.facts)
+    × (l.changed ≡ false → (k : ℕ) → l.place ≤ k → k < g.R.Rule.rows l.rule → g.R.Rule.settled l.rule l.facts k)

@@ -1,22 +1,15 @@
-use Rattle.std.proofs.Common.{◌≡◌, ◌<◌, [], length, arith}
-use Rattle.std.proofs.lemmas.Bool.Decides.{nat_tests}
-use Rattle.code.specs.Codes.{rows_of}
-use Rattle.code.specs.declared.row.Row.TheVariants.{Constant}
-use Rattle.code.proofs.Asking.{moves_more}
+use Rattle.std.proofs.Common.{List, ℕ, ◌≡◌, take, sym, ◌∙◌, rules}
+use Rattle.std.proofs.iter.runs.Made.{chains}
+use Rattle.std.specs.List.{count_by}
+use Rattle.code.specs.Codes.{rows_of, is_move}
+use Rattle.code.specs.Rows.{fields}
+use Rattle.code.specs.declared.row.Row.{Row}
+use Rattle.code.proofs.Asking.{moves_counted}
 use Rattle.code.proofs.body.Code.moves.Goals as goal
-use Rattle.code.proofs.body.Code.moves.Goals.{then-is_move, else-is_move}
-
-pub loop-place-preserved : goal.loop-place-preserved
-loop-place-preserved c =
-    let inside : c.loop-place.place < length c.args.self.now.rows = omega arith in
-    let more = moves_more c.args.self.now.rows c.loop-place.place (Constant 0 []) inside in
-    elim c.if-is_move.branch [
-      | then-is_move w ↦ (grind (arith, nat_tests, more), omega arith)
-      | else-is_move w ↦ (grind (arith, nat_tests, more), omega arith)
-    ]
 
 pub returns : goal.returns
 unfolding rows_of
 returns c =
-    let all : c.loop-place.place ≡ c.args.self.now.len = omega arith in
-    rw (← all) c.loop-place.invariant.0
+    let counted : c.count.result ≡ count_by (λ (row : Row (List ℕ)). is_move (fields row)) (take c.args.self.now.len c.args.self.now.rows) =
+    search (rules, chains) in
+    counted ∙ sym (moves_counted _)

@@ -1,25 +1,15 @@
-use Rattle.std.proofs.Common.{◌<◌, ◌≤◌, length, sym, arith}
-use Rattle.std.proofs.lemmas.Bool.Decides.{nat_tests}
-use Rattle.std.proofs.lemmas.List.{get_or_default}
+use Rattle.std.proofs.Common.{◌≡◌, take, slice_get, arith}
+use Rattle.std.proofs.lemmas.Grind.{common_steps}
+use Rattle.std.proofs.lemmas.Option.{slice_get-map, slice_get_cases}
 use Rattle.code.specs.Codes.{rows_of}
-use Rattle.code.specs.declared.row.Row.TheVariants.{End}
-use Rattle.code.proofs.Asking.{row_past, row_at}
+use Rattle.code.specs.Rows.{fields}
+use Rattle.code.proofs.Asking.{row_within}
 use Rattle.code.proofs.body.Code.row.Goals as goal
-
-pub returns-then-not-holds : goal.returns-then-not-holds
-unfolding rows_of
-returns-then-not-holds c =
-    let within : c.args.self.now.len ≤ length c.args.self.now.rows = omega arith in
-    let past : c.args.self.now.len ≤ c.args.place = grind (arith, nat_tests) in
-    record { value = sym (row_past c.args.self.now.rows c.args.self.now.len within c.args.place past); bound = tt }
 
 pub returns : goal.returns
 unfolding rows_of
 returns c =
-    let within : c.args.self.now.len ≤ length c.args.self.now.rows = omega arith in
-    let held : c.args.place < c.args.self.now.len = grind (arith, nat_tests) in
-    let inside : c.args.place < length c.args.self.now.rows = omega arith in
-    record {
-      value = sym (row_at c.args.self.now.rows c.args.self.now.len within c.args.place _ held);
-      bound = rw (get_or_default c.args.self.now.rows c.args.place _ End inside) (c.args.self.now.fits c.args.place held);
-    }
+    let rows = take c.args.self.now.len c.args.self.now.rows in
+    let kept : c.copied.result ≡ slice_get rows c.args.place = grind (arith, common_steps, slice_get_cases c.rows.result.now c.args.place) in
+    let mapped = slice_get-map fields rows c.args.place in
+    record { value = cc; bound = row_within c.args.self.now c.args.place c.copied.result kept }

@@ -2,7 +2,8 @@ use Rattle.std.proofs.Common.{◌≡◌, false, ◌||◌, eqb, leb, sym, ap, ◌
 use Rattle.edges.specs.Keys.{key}
 use Rattle.edges.specs.Table.{found_at, landing}
 use Rattle.edges.proofs.Finding.{found_key}
-use Rattle.edges.proofs.Joining.{joined_key, two_inside}
+use Rattle.edges.proofs.Joining.{joined_key}
+use Rattle.graph.proofs.Pairs.{two_inside}
 use Rattle.edges.proofs.Places.{key_some}
 use Rattle.edges.proofs.store.EdgeTableGraph.joined.Goals as goal
 

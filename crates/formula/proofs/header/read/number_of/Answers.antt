@@ -1,39 +1,42 @@
-use Rattle.std.proofs.Common.{◌≡◌, ℕ, ◌+◌, ◌-◌, ◌*◌, ◌^◌, ◌<◌, ◌≤◌, length, get_or, refl, ap, ◌∙◌, arith, pow_mono}
-use Rattle.std.proofs.lemmas.Nat.{pow_pos, pow-add}
-use Rattle.std.proofs.lemmas.List.{drop_all, drop_more}
+-- Bytes with zeros behind them are the number that the library reads of sixteen.
+use Rattle.std.proofs.Common.{◌≡◌, ℕ, zero, suc, ◌+◌, ◌-◌, ◌*◌, ◌^◌, ◌≤◌, List, [], ◌∷◌, ◌++◌, length, get_or, drop, replicate, refl, sym, ap, ◌∙◌, arith, length-append}
+use Rattle.std.proofs.Math.Nat.{pow-suc}
+use Rattle.std.proofs.lemmas.List.{drop_all, drop-replicate, length-replicate}
+use Rattle.std.specs.Int.{sum_through, byte_worth, from_le_bytes, w128}
+use Rattle.formula.specs.Headers.{number}
 use Rattle.formula.proofs.header.read.number_of.Goals as goal
 
--- what is read so far leaves room for one byte more
-room : (value k : ℕ) → value < 2 ^ (8 * k) → k ≤ 11 → value < 2 ^ 88
-room value k less few =
-    let low : 8 * k ≤ 88 = omega arith in
-    let high : 2 ^ (8 * k) ≤ 2 ^ 88 = pow_mono low in
-    omega arith
+-- the byte at a place, and those behind it
+number_at : (bytes : List ℕ) (i : ℕ) → number (drop i bytes) ≡ get_or bytes i 0 + 256 * number (drop (suc i) bytes)
+number_at [] zero = refl
+number_at [] (suc i) = refl
+number_at (b ∷ bytes) zero = refl
+number_at (b ∷ bytes) (suc i) = number_at bytes i
 
-pub loop-i-init : goal.loop-i-init
-loop-i-init c =
-    (rw (drop_all (length c.args.bytes.now) c.args.bytes.now (omega arith)) refl, pow_pos _)
+grow : (p s g rest : ℕ) → s + p * (g + 256 * rest) ≡ (s + g * p) + p * 256 * rest
+grow p s g rest = omega arith
 
-pub overflow_mul-value : goal.overflow_mul-value
-overflow_mul-value c =
-    let less = room c.loop-i.value (length c.args.bytes.now - c.loop-i.i) c.loop-i.invariant.1 (omega arith) in
-    omega arith
+number_sum : (bytes : List ℕ) (k : ℕ)
+    → number bytes ≡ sum_through (λ i. byte_worth i (get_or bytes i 0)) k + 256 ^ suc k * number (drop (suc k) bytes)
+number_sum bytes zero = number_at bytes 0
+number_sum bytes (suc k) =
+    number_sum bytes k ∙ rw (number_at bytes (suc k), pow-suc 256 (suc k)) (grow (256 ^ suc k) _ _ _)
 
-pub overflow_add-value : goal.overflow_add-value
-overflow_add-value c =
-    let less = room c.loop-i.value (length c.args.bytes.now - c.loop-i.i) c.loop-i.invariant.1 (omega arith) in
-    omega arith
+number_zeros : (bytes : List ℕ) (k : ℕ) → number (bytes ++ replicate k 0) ≡ number bytes
+number_zeros [] zero = refl
+number_zeros [] (suc k) = rw (number_zeros [] k) refl
+number_zeros (b ∷ bytes) k = ap (λ n. b + 256 * n) (number_zeros bytes k)
 
-pub loop-i-preserved : goal.loop-i-preserved
-loop-i-preserved c =
-    let at = c.loop-i.i - 1 in
-    let left = length c.args.bytes.now - c.loop-i.i in
-    let inside : at < length c.args.bytes.now = omega arith in
-    let again : at + 1 ≡ c.loop-i.i = omega arith in
-    let first = drop_more c.args.bytes.now at 0 inside in
-    let more : 8 * (length c.args.bytes.now - at) ≡ 8 * left + 8 = omega arith in
-    let wider : 2 ^ (8 * left + 8) ≡ 2 ^ (8 * left) * 256 = pow-add 2 (8 * left) 8 in (
-      ap (λ v. v * 256 + get_or c.args.bytes.now at 0) c.loop-i.invariant.0
-          ∙ rw (first, again) (omega arith),
-      rw (more, wider) (omega arith),
-    )
+sixteen : (bytes : List ℕ) → length bytes ≤ 16 → from_le_bytes w128 (bytes ++ drop (length bytes) (replicate 16 0)) ≡ number bytes
+sixteen bytes few =
+    let all = bytes ++ replicate (16 - length bytes) 0 in
+    let long : length all ≤ 16 = simp (length-append, length-replicate) (omega arith) in
+    let none : drop 16 all ≡ [] = drop_all 16 all long in
+    let read : number all ≡ from_le_bytes w128 all = number_sum all 15 ∙ rw none (omega arith) in
+    rw (drop-replicate {X = ℕ} (length bytes) 16 0) (sym read ∙ number_zeros bytes (16 - length bytes))
+
+pub returns : goal.returns
+returns c =
+    let is : c.from_le_bytes.result ≡ from_le_bytes w128 (c.copy_from_slice.new.self ++ drop (length c.args.bytes.now) (replicate 16 0)) =
+    c.from_le_bytes.ensures in
+    is ∙ rw c.copy_from_slice.ensures.after (sixteen c.args.bytes.now c.requires)

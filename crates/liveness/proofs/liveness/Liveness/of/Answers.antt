@@ -1,5 +1,4 @@
-use lib.ListN.{length-replicate}
-use Rattle.std.proofs.Common.{sym, ◌∙◌}
+use Rattle.std.proofs.Common.{sym, ◌∙◌, arith}
 use Rattle.std.proofs.lemmas.Bool.{false≢true}
 use Rattle.code.specs.Codes.{rows_of}
 use Rattle.liveness.proofs.Finding.{in_none, before_decides, after_decides}
@@ -9,17 +8,13 @@ use Rattle.liveness.proofs.Sweeps.{closed_all}
 use Rattle.liveness.proofs.liveness.Liveness.of.Goals as goal
 
 pub settle-requires : goal.settle-requires
-settle-requires c =
-    record {
-      whole = length-replicate 512 c.new-before.result;
-      sound = λ i v e. absurd (false≢true (sym (in_none 512 c.new-before.result c.new-before.ensures i v) ∙ e));
-    }
+settle-requires c = (omega arith, λ i v e. absurd (false≢true (sym (in_none 512 c.new-before.result c.new-before.ensures i v) ∙ e)))
 
 pub returns : goal.returns
 returns c =
     let rows = rows_of c.args.code.now in
-    let before = c.settle.new.before in
-    let closed = closed_all rows before c.settle.ensures.closed in
+    let before = c.settle.new.facts in
+    let closed = closed_all rows before c.settle.ensures.settled in
     let exact = before_decides rows before c.settle.ensures.sound closed in
     record {
       before = exact;

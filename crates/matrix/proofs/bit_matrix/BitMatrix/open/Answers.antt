@@ -1,14 +1,18 @@
-use Rattle.std.proofs.Common.{◌≡◌, ℕ, List, refl, ap, ◌∙◌}
+use Rattle.std.proofs.Common.{◌≡◌, ℕ, ◌≤◌, List, ◌++◌, length, drop, sym, refl, ap, ◌∙◌, rules, arith}
 use Rattle.matrix.specs.Layout.{bytes_for, cleared}
 use Rattle.matrix.specs.Matrix.{matrix_meaning}
-use Rattle.matrix.proofs.Clearing.{cleared_meaning}
+use Rattle.matrix.proofs.Clearing.{cleared_meaning, granted_room}
 use Rattle.matrix.proofs.bit_matrix.BitMatrix.open.Goals as goal
 
 pub returns : goal.returns
 returns c =
     let bytes : List ℕ = c.args.memory.now in
-    let now : c.clear.new.bits ≡ cleared (bytes_for c.args.n) bytes =
-    c.clear.ensures ∙ ap (λ (k : ℕ). cleared k bytes) c.whole_bytes.ensures in
+    let count : ℕ = c.whole_bytes.result in
+    let room = granted_room c.args.n (length bytes) (sym c.requires) in
+    let inside : count ≤ length bytes = omega (arith, c.whole_bytes.ensures, room.2) in
+    let filled : c.fill.new.self ++ drop count bytes ≡ cleared count bytes = search rules in
+    let now : c.fill.new.self ++ drop count bytes ≡ cleared (bytes_for c.args.n) bytes =
+    filled ∙ ap (λ (k : ℕ). cleared k bytes) c.whole_bytes.ensures in
     record {
       size = refl;
       bits = now;

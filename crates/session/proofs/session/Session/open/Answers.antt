@@ -1,6 +1,7 @@
 use Rattle.std.proofs.Common.{sym, ap, ◌∙◌, subst}
 use Rattle.session_laws.specs.Base.{SoundBase}
-use Rattle.views.specs.declared.class.ClassView.{ClassView}
+use Rattle.views.specs.declared.class.ClassLook.{ClassLook}
+use Rattle.views.specs.declared.view.View.{View}
 use Rattle.session.proofs.Tables.{view_shape, opened_base, opened_sound}
 use Rattle.session.proofs.session.Session.open.Goals as goal
 
@@ -25,5 +26,5 @@ returns g c =
     record {
       base = c.start.ensures.base ∙ base;
       state = c.start.ensures.state;
-      graph = c.into_below-2.ensures ∙ (ap (λ (x : ClassView g.row.G.Denot). x.below) (c.into_below.ensures ∙ c.new-clique_view.ensures.below) ∙ c.new-class_view.ensures.below);
+      graph = c.into_below-2.ensures ∙ (ap (λ (x : View ClassLook g.row.G.Denot). x.below) (c.into_below.ensures ∙ c.new-clique_view.ensures.below) ∙ c.new-class_view.ensures.below);
     }

@@ -1,24 +1,28 @@
-use Rattle.std.proofs.Common.{◌≡◌, ℕ, ◌+◌, false, not, ◌&&◌, ◌||◌, ltb, List, length, ap, ◌∙◌, ap₂}
+use Rattle.std.proofs.Common.{◌≡◌, ℕ, Bool, ◌&&◌, ◌||◌, ltb, sym, ap, ◌∙◌, ap₂, inl, inr}
+use mathlib.Core.Path.{fun_ext}
+use Rattle.std.proofs.lemmas.Bool.{or_cases}
 use Rattle.graph.specs.Counting.{count}
-use Rattle.board.proofs.Bridging.{count_same}
+use Rattle.numbers.specs.Sets.{has}
+use Rattle.session_laws.proofs.Cores.{far_inside}
 use Rattle.session_laws.specs.Tests.{briggs, significant}
-use Rattle.standing.specs.Standing.{graph_of, base_of, fixed_in, registers_of, weighty, marked}
-use Rattle.standing.proofs.Marking.{both_counts, unmarked}
-use Rattle.standing.proofs.Tests.{either_weighs, not_marked, marked_now}
+use Rattle.standing.specs.Standing.{graph_of, base_of, fixed_in, registers_of}
+use Rattle.standing.proofs.Shapes.{graph_lawful}
 use Rattle.standing.proofs.standing.Standing.briggs.Goals as goal
+
+pub significant_among-requires : goal.significant_among-requires
+significant_among-requires c w h =
+    let s = c.args.self.now in
+    elim (or_cases (has c.row.result w) (has c.row-2.result w) (sym (c.union-near.ensures w) ∙ h)) [
+      | inl one ↦ far_inside (graph_of s) (graph_lawful s) c.args.u w (sym (c.row.ensures w) ∙ one)
+      | inr other ↦ far_inside (graph_of s) (graph_lawful s) c.args.v w (sym (c.row-2.ensures w) ∙ other)
+    ]
 
 pub returns : goal.returns
 unfolding briggs base_of
 returns c =
     let s = c.args.self.now in
     let g = graph_of s in
-    let start = c.args.marks.now in
-    let clear : (k : ℕ) → marked start k ≡ false = λ k. ap (λ (m : List ℕ). marked m k) c.requires.1 ∙ unmarked (length start) k in
-    let near : c.count_new-near.result ≡ count (weighty s (g.joined c.args.u)) g.size =
-    c.count_new-near.ensures.found ∙ count_same _ _ g.size (λ k _. not_marked _ _ (clear k)) in
-    let more : c.count_new-more.result ≡ count (λ k. weighty s (g.joined c.args.v) k && not (weighty s (g.joined c.args.u) k)) g.size =
-    c.count_new-more.ensures.found ∙ count_same _ _ g.size (λ k _. marked_now _ _ _ _ (c.count_new-near.ensures.marks k) (clear k)) in
-    let all : count (weighty s (g.joined c.args.u)) g.size + count (λ k. weighty s (g.joined c.args.v) k && not (weighty s (g.joined c.args.u) k)) g.size ≡
-    count (λ w. (g.joined c.args.u w || g.joined c.args.v w) && significant (fixed_in s) (registers_of s) g w) g.size =
-    both_counts (weighty s (g.joined c.args.u)) (weighty s (g.joined c.args.v)) _ g.size (λ k. either_weighs (g.joined c.args.u k) (g.joined c.args.v k) (significant (fixed_in s) (registers_of s) g k)) in
-    ap (λ (k : ℕ). ltb k s.registers) (ap₂ (λ (a b : ℕ). a + b) near more ∙ all)
+    let near : has c.union-near.result ≡ (λ w. g.joined c.args.u w || g.joined c.args.v w) =
+    fun_ext (λ w. c.union-near.ensures w ∙ ap₂ (λ x y. x || y) (c.row.ensures w) (c.row-2.ensures w)) in
+    ap (λ (k : ℕ). ltb k s.registers)
+    (c.significant_among.ensures ∙ ap (λ (p : ℕ → Bool). count (λ w. p w && significant (fixed_in s) (registers_of s) g w) g.size) near)

@@ -1,8 +1,8 @@
 use Rattle.std.proofs.Common.{◌∙◌}
 use Rattle.numbers.specs.Sets.{has}
-use Rattle.board.proofs.Bridging.{set_size}
+use Rattle.board.proofs.Bridging.{set_size, none_joined}
 use Rattle.standing.specs.Standing.{graph_of}
-use Rattle.standing.proofs.Shapes.{graph_lawful, none_joined}
+use Rattle.standing.proofs.Shapes.{graph_lawful}
 use Rattle.standing.proofs.standing.Standing.degree.Goals as goal
 
 pub returns : goal.returns

@@ -14,5 +14,5 @@ returns c v =
     let s = c.args.self.now in
     let small : s.first + s.registers ≤ 32 = bank_small s in
     c.intersection.ensures v ∙ ap₂ (λ x y. x && y)
-    (c.difference-bank.ensures v ∙ (ap₂ (λ x y. x && not y) (c.below.ensures v) (c.below-2.ensures v) ∙ bank_test s.first s.registers v small))
+    (c.difference-bank.ensures v ∙ (ap₂ (λ x y. x && not y) (c.below-end.ensures v) (c.below.ensures v) ∙ bank_test s.first s.registers v small))
     (c.vertices.ensures v)

@@ -1,6 +1,5 @@
-use Rattle.std.proofs.Common.{ℕ, sym, refl, ap, ◌∙◌}
+use Rattle.std.proofs.Common.{ℕ, sym, ap, ◌∙◌}
 use Rattle.std.proofs.lemmas.Bool.{and_from, eq-eqb}
-use Rattle.standing.specs.Standing.{base_of, board_of, is_left}
 use Rattle.standing.proofs.standing.Standing.new.Goals as goal
 
 pub invariant_of-result : goal.invariant_of-result
@@ -10,7 +9,3 @@ invariant_of-result c = record {
     inside = λ v h. and_from _ _ (sym (c.vertices-left.ensures v) ∙ h) (eq-eqb _ _ (ap (λ (t : ℕ → ℕ). t v) c.requires.1));
   } ∣₁;
 }
-
-pub returns : goal.returns
-unfolding base_of board_of is_left
-returns c = record { base = refl; board = refl; left = c.vertices-left.ensures }

@@ -1,6 +1,5 @@
-use Rattle.std.proofs.Common.{sym, refl, ◌∙◌}
+use Rattle.std.proofs.Common.{sym, ◌∙◌}
 use Rattle.std.proofs.lemmas.Bool.{and_parts}
-use Rattle.standing.specs.Standing.{base_of, board_of, is_left}
 use Rattle.standing.proofs.Told.{told_standing}
 use Rattle.standing.proofs.standing.Standing.remove.Goals as goal
 
@@ -8,7 +7,3 @@ pub invariant_of-self : goal.invariant_of-self
 invariant_of-self c =
     let was = told_standing _ _ _ _ c.args.self.now.sound in
     record { sound = ∣ record { base = was.base; inside = λ v h. was.inside v (and_parts _ _ (sym (c.remove.ensures v) ∙ h)).0 } ∣₁ }
-
-pub returns : goal.returns
-unfolding base_of board_of is_left
-returns c = record { base = refl; board = refl; left = c.remove.ensures }

@@ -5,10 +5,6 @@ use Rattle.standing.proofs.Told.{told_standing}
 use Rattle.standing.proofs.Uniting.{base_same, base_kept, still_inside}
 use Rattle.standing.proofs.standing.Standing.unite.Goals as goal
 
-pub unite-requires : goal.unite-requires
-unfolding board_of
-unite-requires c = c.requires
-
 pub invariant_of-self : goal.invariant_of-self
 unfolding board_of
 invariant_of-self c =

@@ -1,0 +1,6 @@
+#![tactic(auto)]
+
+// The two classes of values, each with registers of its own.
+pub mod class;
+
+pub use class::Class;

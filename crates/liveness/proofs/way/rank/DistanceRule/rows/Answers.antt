@@ -1,0 +1,6 @@
+use Rattle.std.proofs.Common.{arith}
+use Rattle.liveness.proofs.Sweeps.{few_rows}
+use Rattle.liveness.proofs.way.rank.DistanceRule.rows.Goals as goal
+
+pub returns-clause-few : goal.returns-clause-few
+returns-clause-few c = let few = few_rows c.args.self.now.code.now in omega arith

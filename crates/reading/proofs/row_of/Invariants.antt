@@ -1,7 +1,0 @@
-use Rattle.std.proofs.Common.{◌≡◌}
-use Rattle.numbers.specs.Sets.{has}
-use Rattle.reading.proofs.Reading.{ReadBelow}
-use Rattle.reading.proofs.row_of.Given as goal
-
-abbrev pub invariant-loop-v : goal.invariant-loop-v
-invariant-loop-v g l = (l.n ≡ (g.H.Graph.means l.graph).shape.size) × ReadBelow ((g.H.Graph.means l.graph).shape.joined l.u) (has l.row) l.v

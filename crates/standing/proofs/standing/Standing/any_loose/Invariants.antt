@@ -1,7 +1,0 @@
-use Rattle.std.proofs.Common.{◌≡◌, false}
-use Rattle.graph.specs.Counting.{any}
-use Rattle.standing.specs.Standing.{graph_of, loose_in}
-use Rattle.standing.proofs.standing.Standing.any_loose.Given as goal
-
-abbrev pub invariant-loop-v : goal.invariant-loop-v
-invariant-loop-v l = (l.n ≡ (graph_of l.self).size) × (any (loose_in l.self) l.v ≡ false)

@@ -1,7 +1,0 @@
-use Rattle.std.proofs.Common.{rules}
-use Rattle.standing.specs.Standing.{board_of}
-use Rattle.standing.proofs.standing.Standing.board.Goals as goal
-
-pub returns : goal.returns
-unfolding board_of
-returns c = search rules

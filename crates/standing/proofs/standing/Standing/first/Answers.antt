@@ -1,7 +1,0 @@
-use Rattle.std.proofs.Common.{refl}
-use Rattle.standing.specs.Standing.{base_of}
-use Rattle.standing.proofs.standing.Standing.first.Goals as goal
-
-pub returns : goal.returns
-unfolding base_of
-returns c = refl
