@@ -6,7 +6,7 @@ use std::alloc::AllocError;
 
 // Where the rule was broken, what stands there and what would have been right.
 impl Input<'_> {
-    pub fn detail(self, fault: FormulaFault) -> Result<String, AllocError> {
+    pub(crate) fn detail(self, fault: FormulaFault) -> Result<String, AllocError> {
         match fault {
             FormulaFault::Record(fault) => match read_header(self.bytes) {
                 Ok(header) => Refused::first(self, header).detail(fault),

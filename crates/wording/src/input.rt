@@ -1,3 +1,5 @@
+ghost use Rattle.std.specs.Prelude.{◌≡◌, slice_index};
+
 use std::alloc::Global;
 
 // An input that is refused, and the heap that what is said of it goes to.
@@ -9,12 +11,14 @@ pub(crate) struct Input<'a> {
 
 impl Input<'_> {
     // The byte at a place, 0 behind the end.
-    pub fn byte(self, at: usize) -> u8 {
+    pub(crate) fn byte(self, at: usize) -> u8
+        ensures { result ≡ slice_index self.entry.bytes.now at }
+    {
         self.bytes.get(at).copied().unwrap_or(0)
     }
 
     // The number of two bytes at a place.
-    pub fn number(self, at: usize) -> u16 {
+    pub(crate) fn number(self, at: usize) -> u16 {
         u16::from_le_bytes([self.byte(at), self.byte(at.saturating_add(1))])
     }
 }

@@ -16,7 +16,7 @@ pub(crate) struct Refused<'a> {
 
 impl<'a> Refused<'a> {
     // The first record that is refused, or the place behind them all.
-    pub fn first(input: Input<'a>, header: Header) -> Refused<'a> {
+    pub(crate) fn first(input: Input<'a>, header: Header) -> Refused<'a> {
         let limits = header.limits();
         let mut reader = Reader::new(input.bytes, header.end());
         // The number is told, and is no index; the place behind the last record is wanted too.
@@ -41,7 +41,7 @@ impl<'a> Refused<'a> {
 }
 
 impl Refused<'_> {
-    pub fn detail(self, fault: RecordFault) -> Result<String, AllocError> {
+    pub(crate) fn detail(self, fault: RecordFault) -> Result<String, AllocError> {
         match fault {
             RecordFault::EndsEarly { at } => self.ends(at),
             RecordFault::UnknownKind { .. } => self.unknown_kind(),

@@ -11,7 +11,7 @@ impl Input<'_> {
     }
 
     // The record that reads the value first, and the way there from the first record.
-    pub fn used_before_set(self, value: u16) -> Result<String, AllocError> {
+    pub(crate) fn used_before_set(self, value: u16) -> Result<String, AllocError> {
         // lent to the walk, which writes the way into it and answers its length
         let mut way = [0; 512];
         let count = self.way_to(value, &mut way).unwrap_or(0);
