@@ -4,7 +4,7 @@ ghost use Rattle.edges.specs.Table.{half_of, two_slots};
 
 use crate::edge_table::EdgeTable;
 use graph::opening::OpeningRefusal;
-use graph::store::Store;
+use graph::store::{Renewable, Store};
 
 impl Store for EdgeTable<'_> {
     ghost holds = { λ g. two_slots (length g.words.now) };
@@ -28,3 +28,5 @@ impl Store for EdgeTable<'_> {
         EdgeTable::open(n, words)
     }
 }
+
+impl Renewable for EdgeTable<'_> {}

@@ -1,5 +1,6 @@
 // Opening a table, and the calls that it answers as a graph.
 ghost use Rattle.std.specs.Prelude.{◌≡◌, ◌/◌, length, replicate, Ok};
+ghost use Rattle.std.specs.Borrow.{sem, RestsIfErr, Array, u32};
 ghost use Rattle.graph.specs.Joining.{join_meaning};
 ghost use Rattle.graph.specs.Stores.{empty_store, Opened};
 ghost use Rattle.edges.specs.Table.{slot_at, landing, table_meaning, table_opening, NewTable};
@@ -36,13 +37,17 @@ impl<'a> EdgeTable<'a> {
         }
     }
 
-    // The same where the check grants it, so that the caller owes nothing. Each store has its own two lines: a trait with a lifetime
-    // may not give its functions a body yet. No clause on lent memory is admitted here, so that of a refusal is `check`'s to promise.
+    // The same where the check grants it, so that the caller owes nothing; a refusal leaves the memory as it was. That is a clause on a loan,
+    // whose proof is written by hand and follows these lines. Each store has its own: a trait with a lifetime may not give its functions a
+    // body yet.
     pub fn try_open(n: usize, memory: &'a mut [u32]) -> Result<EdgeTable<'a>, OpeningRefusal>
-        ensures { Opened (λ store. NewTable n memory.old memory.entry.ghost_name store.n store.words.now store.words.ghost_name) (table_opening n (length memory.old)) result }
+        ensures* unchanged { sem 𝓛 (RestsIfErr (Array u32 0) memory.entry (λ store. store.words.ghost_name) result (λ last. last ≡ memory.old)) }
+        ensures opened { Opened (λ store. NewTable n memory.old memory.entry.ghost_name store.n store.words.now store.words.ghost_name) (table_opening n (length memory.old)) result }
     {
-        EdgeTable::check(n, memory)?;
-        Ok(EdgeTable::open(n, memory))
+        match EdgeTable::check(n, memory) {
+            Ok(()) => Ok(EdgeTable::open(n, memory)),
+            Err(refusal) => Err(refusal),
+        }
     }
 
     // The slot in which the word or an empty slot is met.

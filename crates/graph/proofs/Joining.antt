@@ -87,6 +87,12 @@ added_meaning m u v e h = ap (λ (p : Result Pair Refusal). meaning_of (settled 
 pub fresh_under : (f : Shape → Shape) → View f → (s : Shape) (u v : ℕ) → Lawful s → judge_of (f s) u v ≡ Ok Fresh → judge_of s u v ≡ Ok Fresh
 fresh_under f w s u v l e = pair_fresh s u v (fresh_below f w s u v l (fresh_pair (f s) u v e))
 
+-- so it is answered in the view as below
+pub through_answer : (f : Shape → Shape) → View f → (m : Meaning) (u v : ℕ) → Lawful m.shape →
+    judge_of (f m.shape) u v ≡ Ok Fresh → join_answer m u v ≡ join_answer (over f m) u v
+through_answer f w m u v l e =
+    ap (λ (p : Result Pair Refusal). answer_of (settled p m.free)) (fresh_under f w m.shape u v l e ∙ sym e)
+
 -- and joined in the view by being joined below
 pub through_meaning : (f : Shape → Shape) → View f → (m : Meaning) (u v : ℕ) → Lawful m.shape →
     judge_of (f m.shape) u v ≡ Ok Fresh → over f (join_meaning m u v) ≡ join_meaning (over f m) u v

@@ -6,3 +6,5 @@ pub mod Clique
 pub mod Merging
 pub mod Joining
 pub mod Stores
+pub mod Lending
+pub mod Refusals

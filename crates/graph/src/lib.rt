@@ -3,6 +3,7 @@
 // What a graph is, for everything that stores one, looks at one through a view, or works on one.
 pub mod opening;
 pub mod pair;
+pub mod passing;
 pub mod refusal;
 pub mod store;
 pub mod task;
@@ -12,6 +13,7 @@ ghost use Rattle.graph.specs.Shape.{Lawful, Meaning, degree as degree_of, next a
 ghost use Rattle.graph.specs.Joining.{join_answer, join_meaning};
 
 pub use classes::class;
+use passing::{count_passing, first_passing};
 use refusal::Refusal;
 
 // Six calls. Five ask and are answered on every number; join is the only one that changes anything.
@@ -38,14 +40,14 @@ pub trait Graph {
     fn degree(&self, u: usize) -> usize
         ensures { result ≡ degree_of (means self.now).shape u }
     {
-        (0..self.size()).filter(|v| self.joined(u, *v)).count()
+        count_passing(self.size(), |v| self.joined(u, v))
     }
 
     // The lowest vertex, not below `from`, that u is joined to.
     fn next(&self, u: usize, from: usize) -> Option<usize>
         ensures { result ≡ next_of (means self.now).shape u from }
     {
-        (from..self.size()).find(|v| self.joined(u, *v))
+        first_passing(from, self.size(), |v| self.joined(u, v))
     }
 
     fn join(&mut self, u: usize, v: usize) -> Result<(), Refusal>

@@ -45,8 +45,11 @@ pub trait Fresh: Graph {
         ensures fresh { fresh result ≡ fresh self };
 }
 
-// A store is one: a fresh graph has no pairs.
-impl<S: Store> Fresh for S {
+// A store whose fresh graph is the store itself, opened anew: it has no pairs. One with another fresh graph to hand out leaves this
+// out, and says itself what it has.
+pub trait Renewable: Store {}
+
+impl<S: Renewable> Fresh for S {
     ghost has = { λ g. S.Store.holds g };
 
     ghost fresh = { λ g n. empty_store n (S.Store.room g n) };

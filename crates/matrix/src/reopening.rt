@@ -5,7 +5,7 @@ ghost use Rattle.matrix.specs.Matrix.{fits_in};
 
 use crate::bit_matrix::BitMatrix;
 use graph::opening::OpeningRefusal;
-use graph::store::Store;
+use graph::store::{Renewable, Store};
 
 impl Store for BitMatrix<'_> {
     ghost holds = { λ g. fits_in (length g.bits.now) };
@@ -25,3 +25,5 @@ impl Store for BitMatrix<'_> {
         BitMatrix::open(n, bits)
     }
 }
+
+impl Renewable for BitMatrix<'_> {}

@@ -1,5 +1,6 @@
 // Opening a matrix, and the calls that it answers as a graph.
 ghost use Rattle.std.specs.Prelude.{◌≡◌, length, Ok};
+ghost use Rattle.std.specs.Borrow.{sem, RestsIfErr, Array, u8};
 ghost use Rattle.graph.specs.Joining.{join_meaning};
 ghost use Rattle.graph.specs.Stores.{empty_store, Opened};
 ghost use Rattle.matrix.specs.Layout.{bytes_for, cleared, triangle};
@@ -35,13 +36,17 @@ impl<'a> BitMatrix<'a> {
         BitMatrix { n, bits: memory }
     }
 
-    // The same where the check grants it, so that the caller owes nothing. Each store has its own two lines: a trait with a lifetime
-    // may not give its functions a body yet. No clause on lent memory is admitted here, so that of a refusal is `check`'s to promise.
+    // The same where the check grants it, so that the caller owes nothing; a refusal leaves the memory as it was. That is a clause on a loan,
+    // whose proof is written by hand and follows these lines. Each store has its own: a trait with a lifetime may not give its functions a
+    // body yet.
     pub fn try_open(n: usize, memory: &'a mut [u8]) -> Result<BitMatrix<'a>, OpeningRefusal>
-        ensures { Opened (λ store. NewMatrix n memory.old memory.entry.ghost_name store.n store.bits.now store.bits.ghost_name) (matrix_opening n (length memory.old)) result }
+        ensures* unchanged { sem 𝓛 (RestsIfErr (Array u8 0) memory.entry (λ store. store.bits.ghost_name) result (λ last. last ≡ memory.old)) }
+        ensures opened { Opened (λ store. NewMatrix n memory.old memory.entry.ghost_name store.n store.bits.now store.bits.ghost_name) (matrix_opening n (length memory.old)) result }
     {
-        BitMatrix::check(n, memory)?;
-        Ok(BitMatrix::open(n, memory))
+        match BitMatrix::check(n, memory) {
+            Ok(()) => Ok(BitMatrix::open(n, memory)),
+            Err(refusal) => Err(refusal),
+        }
     }
 }
 
