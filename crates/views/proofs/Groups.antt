@@ -1,9 +1,13 @@
--- Merge tables stay settled. Assumes nothing.
-use Rattle.std.proofs.Common.{◌≡◌, ℕ, ◌<◌, ◌≤◌, min, max, true, ◌&&◌, eqb, ltb, leb, List, length, get_or, sym, ap, ◌∙◌, subst, ap₂, inl, inr, arith}
+-- Merge tables stay settled; what a test on two answers tells. Assumes nothing.
+use Rattle.std.proofs.Common.{◌≡◌, ℕ, ◌<◌, ◌≤◌, min, max, Bool, true, ◌&&◌, eqb, ltb, leb, List, length, get_or, sym, ap, ◌∙◌, subst, ap₂, inl, inr, arith}
 use mathlib.Core.Path.{fun_ext}
 use lib.ListN.{get_or-eq_default}
 use Rattle.std.proofs.lemmas.Bool.{and_parts, and_from, leb-true, le-leb, eqb-true, eq-eqb, ne_eqb, cases_eq, cases_lt, lt-ltb, cond-true, cond-false}
 use Rattle.views.specs.Groups.{group_at, settled_at, renamed, united, merged_groups}
+
+-- a test on two answers, as a test on what they answer
+pub both_tests : (t r v : ℕ) (j s b : Bool) → r ≡ t → s ≡ j → (eqb r v && s) ≡ b → (eqb t v && j) ≡ b
+both_tests t r v j s b e f h = rw (sym e, sym f) h
 
 -- a table is settled where every name lies no higher and is its own
 pub settled_from : (table : ℕ → ℕ) (v : ℕ) → table v ≤ v → table (table v) ≡ table v → settled_at table v ≡ true

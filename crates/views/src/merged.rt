@@ -43,7 +43,7 @@ impl MergedLook {
     fn links<G: Graph>(&self, below: &G, a: usize, v: usize, b: usize) -> bool
         ensures { result ≡ ((group_at self.now.table.to b == v) && (G.means below.now).shape.joined a b) }
     {
-        (self.table.group(b) == v) & below.joined(a, b)
+        (self.table.group(b) == v) && below.joined(a, b)
     }
 
     // Whether a is joined below to some member of v.
