@@ -33,7 +33,7 @@ filled_more m (e ∷ es) ys =
     after_one (join_answer m e.one e.other) next (filled next es) (filled next (es ++ ys)) ys (filled_more next es ys)
 
 -- where the first list is joined, the second begins with what it left
-filled_then : (m : Meaning) (xs ys : List Edge) → (filled m xs).answer ≡ Ok tt → filled m (xs ++ ys) ≡ filled (filled m xs).left ys
+pub filled_then : (m : Meaning) (xs ys : List Edge) → (filled m xs).answer ≡ Ok tt → filled m (xs ++ ys) ≡ filled (filled m xs).left ys
 filled_then m xs ys ok = filled_more m xs ys ∙ ap (λ (a : Result (Unit {0}) Refusal). go_on a (filled m xs) (filled (filled m xs).left ys)) ok
 
 -- where one of the first list is refused, that is the end

@@ -59,6 +59,26 @@ no_more before after gives =
       | inr h ↦ passing_past p 512 a h (λ v low high. has_large (source before) v low)
     ]
 
+-- where the iterator gives no more, all below n have been given
+pub no_more_to : (before after : Members) (n : ℕ) → place before ≤ n → Gives before None after →
+    passing (has (source before)) (place before) ≡ passing (has (source before)) n
+no_more_to before after n inside gives =
+    let p = has (source before) in
+    let a = place before in
+    sym (passing_past p a n inside (λ v low high. elim (cases_lt v 512) [
+      | inl l ↦ first_none p a (512 - a) (sym gives.1) v low (omega arith)
+      | inr h ↦ has_large (source before) v h
+    ]))
+
+-- where the member that it gives is not below n, all below n have been given
+pub no_more_below : (before after : Members) (n x : ℕ) → place before ≤ n → n ≤ x → Gives before (Some x) after →
+    passing (has (source before)) (place before) ≡ passing (has (source before)) n
+no_more_below before after n x inside past gives =
+    let p = has (source before) in
+    let a = place before in
+    let found = first_found p a (512 - a) x (sym gives.1) in
+    sym (passing_past p a n inside (λ v low high. found.3 v low (omega arith)))
+
 -- One member more, which an iterator gives, is joined to u, where all before it are.
 module _ (m now : Meaning) (u : ℕ) (before after : Members) (x : ℕ) (gives : Gives before (Some x) after)
     (so_far : SoFar m now (map (edge u) (passing (has (source before)) (place before)))) where
@@ -86,11 +106,11 @@ module _ (m now : Meaning) (u : ℕ) (before after : Members) (x : ℕ) (gives :
       })
 
   -- a refusal ends the whole
-  pub member_refused : (e : Refusal) → Err e ≡ join_answer now u x →
-      filled m (map (edge u) (passing (has (source before)) 512)) ≡ filled now (edge u x ∷ [])
-  member_refused e err =
+  pub member_refused : (e : Refusal) (n : ℕ) → x < n → Err e ≡ join_answer now u x →
+      filled m (map (edge u) (passing (has (source before)) n)) ≡ filled now (edge u x ∷ [])
+  member_refused e n inside err =
       let refused : (filled m (members (x + 1))).answer ≡ Err e =
       ap (λ f. f.answer) both ∙ sym (err ∙ one_answer (join_answer now u x) (join_meaning now u x)) in
       let more : ℕ → List Edge = λ k. map (edge u) (cond_one (has (source before) k) k) in
-      let rest = grown_to members more (λ k. map_append (edge u) (passing (has (source before)) k) (cond_one (has (source before) k) k)) (x + 1) 512 (omega arith) in
+      let rest = grown_to members more (λ k. map_append (edge u) (passing (has (source before)) k) (cond_one (has (source before) k) k)) (x + 1) n (omega arith) in
       ap (filled m) rest.1 ∙ (filled_stops m (members (x + 1)) rest.0 e refused ∙ both)

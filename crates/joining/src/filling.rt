@@ -19,9 +19,11 @@ fn join_all<G: Graph>(graph: &mut G, u: usize, others: &NumberSet, n: usize) -> 
     ensures after { G.means graph.new ≡ (filled (G.means graph.old) (map (edge u) (passing (has others.now) n))).left }
     ensures left { JoinedOn G.leaves graph.old graph.new }
 {
-    let within = others.intersection(&NumberSet::below(n));
     // Not try_for_each: its closure would change the graph that it captured, and a proof learns nothing of that.
-    for v in within.iter() {
+    for v in others.iter() {
+        if v >= n {
+            return Ok(());
+        }
         graph.join(u, v)?;
     }
     Ok(())
