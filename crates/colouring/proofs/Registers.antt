@@ -1,11 +1,11 @@
 -- Arrays of registers that change. Assumes nothing.
-use Rattle.std.proofs.Common.{◌≡◌, ℕ, ◌+◌, ◌-◌, ◌<◌, ◌≤◌, Bool, true, false, cond, not, ◌&&◌, ◌||◌, eqb, ltb, List, length, get_or, drop, set, zero, suc, Some, None, Option, Bor, ◌⊎◌, [], refl, sym, ap, ◌∙◌, inl, inr, arith}
+use Rattle.std.proofs.Common.{◌≡◌, ℕ, ◌+◌, ◌-◌, ◌<◌, ◌≤◌, Bool, true, false, cond, not, ◌&&◌, ◌||◌, eqb, ltb, List, length, get_or, drop, set, zero, suc, Some, None, Option, Bor, ◌⊎◌, [], refl, sym, ap, ◌∙◌, inl, inr, add-one, arith}
 use mathlib.Core.Path.{fun_ext}
 use Rattle.std.proofs.lemmas.Bool.{cases_lt, cases_eq, cases_Bool, eq-eqb, eqb-true, ne_eqb, and_parts, and_from, or_cases, or_left, or_right}
 use Rattle.std.proofs.lemmas.Bool.Decides.{nat_tests}
 use Rattle.std.proofs.lemmas.List.{get_or-drop, length-drop, get_or-set_same, get_or-set_other, get_or_past, drop_more, drop_all, take_all}
 use Rattle.std.specs.List.{slice_range}
-use Rattle.std.specs.Option.{MatchOption, unwrap_or}
+use Rattle.std.specs.Option.{MatchOption, IfSome, unwrap_or}
 use Rattle.graph.specs.Counting.{any}
 use Rattle.graph.specs.Shape.{Shape}
 use Rattle.session_laws.specs.Base.{Base, SoundBase, fixed}
@@ -13,7 +13,7 @@ use Rattle.session_laws.proofs.Pairs.{fixed_low}
 use Rattle.graph.specs.Counting.{first}
 use Rattle.graph.proofs.Counting.{first_same, any_witness, any_from}
 use Rattle.graph.proofs.Merging.{same_test}
-use Rattle.session_laws.specs.Colouring.{painted, giving, lowest_free, own_number, or_none, taken}
+use Rattle.session_laws.specs.Colouring.{none, painted, giving, lowest_free, own_number, or_none, taken}
 use Rattle.colouring.specs.Painting.{read_at, Small}
 
 -- one more register given
@@ -37,6 +37,27 @@ painted_step b g c removed i next l e =
 
 pub painted_end : (b : Base) (g : Shape) (c : ℕ → ℕ) (removed : List ℕ) (i : ℕ) → length removed ≤ i → painted b g c (drop i removed) ≡ c
 painted_end b g c removed i h = ap (painted b g c) (drop_all i removed h)
+
+-- the registers used among the first w, where each w is asked after the other
+one_used : (h j a q : Bool) → j ≡ true → h ≡ a → (h || q) ≡ ((j && q) || a)
+one_used h j a q ej eh = grind (arith, nat_tests)
+
+not_used : (h j a q : Bool) → j ≡ false → h ≡ a → h ≡ ((j && q) || a)
+not_used h j a q ej eh = grind (arith, nat_tests)
+
+small_same : (g r : ℕ) → r < 512 → (ltb g 512 && eqb r g) ≡ eqb g r
+small_same g r l = grind (arith, nat_tests)
+
+pub used_then : (p : ℕ → Bool) (registers : ℕ → ℕ) (w r : ℕ) (before : Bool) → r < 512 → p w ≡ true →
+    before ≡ any (λ k. p k && eqb (registers k) r) w → (before || (ltb (registers w) 512 && eqb r (registers w))) ≡ any (λ k. p k && eqb (registers k) r) (w + 1)
+used_then p registers w r before small pass so_far =
+    rw (add-one w) (ap (λ x. before || x) (small_same (registers w) r small) ∙
+    one_used before (p w) (any (λ k. p k && eqb (registers k) r) w) (eqb (registers w) r) pass so_far)
+
+pub used_else : (p : ℕ → Bool) (registers : ℕ → ℕ) (w r : ℕ) (before : Bool) → p w ≡ false →
+    before ≡ any (λ k. p k && eqb (registers k) r) w → before ≡ any (λ k. p k && eqb (registers k) r) (w + 1)
+used_else p registers w r before fail so_far =
+    rw (add-one w) (not_used before (p w) (any (λ k. p k && eqb (registers k) r) w) (eqb (registers w) r) fail so_far)
 
 -- the registers of those that pass, where each is below n
 abbrev pub Used : (ℕ → Bool) → (ℕ → ℕ) → ℕ → (ℕ → Bool) → Type 0
@@ -106,6 +127,31 @@ own_numbers b sound groups long each w = elim (cases_lt w 512) [
   where
     either : (f : Bool) → or_none (cond f (Some w) None) ≡ cond f w 255
     either f = elim f as (λ g. or_none (cond g (Some w) None) ≡ cond g w 255) [ true ↦ refl | false ↦ refl ]
+
+-- where there is a register, it is below the number that stands for none
+abbrev pub Known : List (Option ℕ) → Type 0
+Known groups = (w : ℕ) → IfSome (get_or groups w None) (λ r. r < none)
+
+pub own_known : (b : Base) → SoundBase b → (groups : List (Option ℕ)) → length groups ≡ 512 →
+    ((w : ℕ) (d : Option ℕ) → w < 512 → get_or groups w d ≡ cond (fixed b w) (Some w) None) → Known groups
+own_known b sound groups long each w = elim (cases_lt w 512) [
+  | inl low ↦ let is : get_or groups w None ≡ cond (fixed b w) (Some w) None = each w None low in rw is (either (fixed b w) (fixed_low b sound w))
+  | inr high ↦ let past : get_or groups w None ≡ None = get_or_past groups w None (omega arith) in rw past tt
+]
+  where
+    either : (f : Bool) → (f ≡ true → w < 32) → IfSome (cond f (Some w) None) (λ r. r < none)
+    either true low = let l : w < 32 = low refl in omega arith
+    either false low = tt
+
+pub given_known : (groups : List (Option ℕ)) (v : ℕ) (r : Option ℕ) → v < length groups → IfSome r (λ k. k < none) → Known groups → Known (set groups v r)
+given_known groups v r l small known w = elim (cases_eq w v) [
+  | inl e ↦
+      let now : get_or (set groups v r) v None ≡ r = get_or-set_same groups v r None l in
+      rw e (rw now small)
+  | inr ne ↦
+      let other : get_or (set groups v r) w None ≡ get_or groups w None = get_or-set_other groups v w r None ne in
+      rw other (known w)
+]
 
 -- what stands from top on is small
 pub last_small : (removed : List ℕ) (top : ℕ) (last : List ℕ) (i : ℕ) → Small removed top → last ≡ drop top removed → i < length last → get_or last i 0 < 512

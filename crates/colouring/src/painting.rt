@@ -1,9 +1,9 @@
 // Which register each group gets: that of the group w is at w of an array of 512.
-ghost use Rattle.std.specs.Prelude.{◌≡◌, ℕ, ◌<◌, not, length, drop, None, cond, Some};
+ghost use Rattle.std.specs.Prelude.{◌≡◌, ℕ, ◌<◌, not, length, drop, None, cond, Some, IfSome, slice_index_or};
 ghost use Rattle.graph.specs.Counting.{first};
 ghost use Rattle.numbers.specs.Sets.{has};
 ghost use Rattle.session_laws.specs.Base.{fixed};
-ghost use Rattle.session_laws.specs.Colouring.{taken, or_none, lowest_free as lowest_free_of, own_number as own_number_of, painted};
+ghost use Rattle.session_laws.specs.Colouring.{none, taken, or_none, lowest_free as lowest_free_of, own_number as own_number_of, painted};
 ghost use Rattle.standing.specs.Standing.{base_of};
 ghost use Rattle.colouring.specs.Painting.{merged_under, read_at, Small};
 
@@ -36,7 +36,8 @@ fn lowest_free(standing: &Standing, used: &NumberSet) -> Option<usize>
 
 // The lowest register that no coloured neighbour of v has. Here and below `as` narrows a number that is proved to fit.
 fn register_for(standing: &Standing, groups: &[Option<u8>; 512], v: usize) -> Option<u8>
-    ensures { or_none result ≡ lowest_free_of (base_of standing.now) (merged_under standing.now) (read_at groups.now) v }
+    ensures lowest { or_none result ≡ lowest_free_of (base_of standing.now) (merged_under standing.now) (read_at groups.now) v }
+    ensures known { IfSome result (λ r. r < none) }
 {
     let used = used_near(standing, groups, v);
     let register = lowest_free(standing, &used)?;
@@ -55,10 +56,12 @@ fn own_number(standing: &Standing, v: usize) -> Option<u8>
 }
 
 // Gives each removed group, the last removed first, the lowest register that no coloured group joined to it has.
-// It takes the array and where the groups in it begin, as they are kept.
+// It takes the array and where the groups in it begin, as they are kept. A register that is given is never the number
+// that stands for none.
 pub fn paint(standing: &Standing, removed: &[usize; 512], top: usize) -> [Option<u8>; 512]
     requires { Small removed.now top }
-    ensures { (w : ℕ) → read_at result w ≡ painted (base_of standing.now) (merged_under standing.now) (own_number_of (base_of standing.now)) (drop top removed.now) w }
+    ensures each { (w : ℕ) → read_at result w ≡ painted (base_of standing.now) (merged_under standing.now) (own_number_of (base_of standing.now)) (drop top removed.now) w }
+    ensures known { (w : ℕ) → IfSome (slice_index_or result w None) (λ r. r < none) }
 {
     let mut groups = array::from_fn(|v| own_number(standing, v));
     let last = removed.get(top..).unwrap_or(&[]);

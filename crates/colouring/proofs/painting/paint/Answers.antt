@@ -6,7 +6,7 @@ use Rattle.session_laws.specs.Colouring.{painted, lowest_free, giving}
 use Rattle.standing.specs.Standing.{base_of}
 use Rattle.standing.proofs.Shapes.{base_sound}
 use Rattle.colouring.specs.Painting.{merged_under, read_at}
-use Rattle.colouring.proofs.Registers.{own_numbers, given_now, painted_step, painted_end, last_is, last_small}
+use Rattle.colouring.proofs.Registers.{own_numbers, own_known, given_now, given_known, painted_step, painted_end, last_is, last_small}
 use Rattle.colouring.proofs.painting.paint.Goals as goal
 
 pub bounds-groups-v : goal.bounds-groups-v
@@ -24,11 +24,13 @@ loop-v-init c =
     let b = base_of s in
     let groups = c.from_fn-groups.result in
     let items = c.from_fn-groups.ensures.items in
-    let own = own_numbers b (base_sound s) groups items.long
-    (λ w d low. made_at groups items (λ v o. o ≡ cond {A = Option ℕ} (fixed b v) (Some v) None) (λ x y q e. search rules) w d low) in (
+    let made : (w : ℕ) (d : Option ℕ) → w < 512 → get_or groups w d ≡ cond {A = Option ℕ} (fixed b w) (Some w) None =
+    λ w d low. made_at groups items (λ v o. o ≡ cond {A = Option ℕ} (fixed b v) (Some v) None) (λ x y q e. search rules) w d low in
+    let own = own_numbers b (base_sound s) groups items.long made in (
       items.long,
       ap (λ (l : Bor (List ℕ)). l.now) c.unwrap_or-last.ensures ∙ last_is c.args.removed.now c.args.top c.get.result _ refl c.get.ensures.lookup.0,
       ap (λ (d : ℕ → ℕ). painted b (merged_under s) d c.unwrap_or-last.result.now) (fun_ext own),
+      own_known b (base_sound s) groups items.long made,
     )
 
 pub loop-v-preserved : goal.loop-v-preserved
@@ -44,17 +46,20 @@ loop-v-preserved c =
     let whole : length groups ≡ 512 = c.loop-v.invariant.0 in
     let small : get_or last i 0 < 512 = last_small c.args.removed.now c.args.top last i c.requires c.loop-v.invariant.1 c.loop-v-test.true in
     let next : read_at (set groups v register) ≡ giving (read_at groups) v (lowest_free b g (read_at groups) v) =
-    given_now groups v register (omega arith) ∙ ap (giving (read_at groups) v) c.register_for.ensures in (
+    given_now groups v register (omega arith) ∙ ap (giving (read_at groups) v) c.register_for.ensures.lowest in (
       length-set groups v register ∙ whole,
       c.loop-v.invariant.1,
       painted_step b g (read_at groups) last i _ c.loop-v-test.true next ∙ c.loop-v.invariant.2,
+      given_known groups v register (omega arith) c.register_for.ensures.known c.loop-v.invariant.3,
     )
 
 pub returns : goal.returns
-returns c w =
+returns c =
     let s = c.args.standing.now in
     let b = base_of s in
     let g = merged_under s in
     let last = c.unwrap_or-last.result.now in
-    let end = painted_end b g (read_at c.loop-v.groups) last c.loop-v.v-index c.loop-v-test.false in
-    ap (λ (d : ℕ → ℕ). d w) (sym end ∙ (c.loop-v.invariant.2 ∙ ap (painted b g _) c.loop-v.invariant.1))
+    let end = painted_end b g (read_at c.loop-v.groups) last c.loop-v.v-index c.loop-v-test.false in record {
+      each = λ w. ap (λ (d : ℕ → ℕ). d w) (sym end ∙ (c.loop-v.invariant.2 ∙ ap (painted b g _) c.loop-v.invariant.1));
+      known = c.loop-v.invariant.3;
+    }

@@ -19,11 +19,22 @@ overflow_cast-result c =
 pub returns : goal.returns
 returns c =
     let s = c.args.standing.now in
+    let b = base_of s in
+    let small : b.first + b.registers ≤ 32 = bank_small s in
     let is = sym c.in_ok-register.was ∙ c.lowest_free.ensures in
-    ap or_none is ∙ free_same (base_of s) (merged_under s) (read_at c.args.groups.now) c.args.v (has c.used_near-used.result) (bank_small s) c.used_near-used.ensures
+    let low : c.in_ok-register.register < b.first + b.registers =
+    (first_found (λ r. not (has c.used_near-used.result r)) b.registers b.first c.in_ok-register.register (sym is)).1 in
+    record {
+      lowest = ap or_none is ∙ free_same b (merged_under s) (read_at c.args.groups.now) c.args.v (has c.used_near-used.result) (bank_small s) c.used_near-used.ensures;
+      known = omega arith;
+    }
 
 pub returns-in_err-register : goal.returns-in_err-register
 returns-in_err-register c =
     let s = c.args.standing.now in
     let is = c.from_residual.ensures ∙ (sym c.in_err-register.was ∙ c.lowest_free.ensures) in
-    ap or_none is ∙ free_same (base_of s) (merged_under s) (read_at c.args.groups.now) c.args.v (has c.used_near-used.result) (bank_small s) c.used_near-used.ensures
+    let none = c.from_residual.ensures in
+    record {
+      lowest = ap or_none is ∙ free_same (base_of s) (merged_under s) (read_at c.args.groups.now) c.args.v (has c.used_near-used.result) (bank_small s) c.used_near-used.ensures;
+      known = rw none tt;
+    }
