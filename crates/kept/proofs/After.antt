@@ -123,7 +123,7 @@ module _ (k : Kept) (v : ℕ) (standing : Standing) (removed : Removed) (moves :
   eqb_turned : (a b : ℕ) (m r : Bool) → ((m && not r) && not (eqb a b)) ≡ (m && not (eqb b a || r))
   eqb_turned a b m r = grind (arith, nat_tests)
 
-  taken_left : (w : ℕ) → is_left standing w ≡ ((merged_graph (base_of k) (state_of k)).stands w && not (listed (v ∷ (state_of k).removed) w))
+  pub taken_left : (w : ℕ) → is_left standing w ≡ ((merged_graph (base_of k) (state_of k)).stands w && not (listed (v ∷ (state_of k).removed) w))
   taken_left w =
       left w ∙ (ap (λ x. x && not (eqb w v)) (still_left k w) ∙ eqb_turned w v ((merged_graph (base_of k) (state_of k)).stands w) (listed (state_of k).removed w))
 

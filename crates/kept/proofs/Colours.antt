@@ -4,11 +4,12 @@ use mathlib.Core.Path.{fun_ext}
 use Rattle.std.proofs.lemmas.Bool.{lt-ltb, le-ltb, cond-true, cond-false, or_left, or_right, eq-eqb}
 use Rattle.std.proofs.lemmas.List.{get_or-drop, length-drop}
 use Rattle.graph.specs.Counting.{any}
-use Rattle.session_laws.specs.State.{listed}
+use Rattle.session_laws.specs.Base.{Base}
+use Rattle.session_laws.specs.State.{State, listed}
 use Rattle.session_laws.specs.Calls.{Call, refused, coloured}
 use Rattle.session_laws.specs.Colouring.{register_of, group_register, own_number, painted}
 use Rattle.session_laws.specs.Outcomes.{outcome, colour_outcome}
-use Rattle.session_laws.specs.Runs.{left_by}
+use Rattle.session_laws.specs.Runs.{called, left_by}
 use Rattle.standing.specs.Standing.{graph_of, loose_in, board_of, base_of as base_under}
 use Rattle.colouring.specs.Painting.{merged_under, read_at, member_register}
 use Rattle.kept.specs.Kept.{base_of, state_of, ByRules}
@@ -27,6 +28,11 @@ module _ (k : Kept) (n : ℕ) where
   pub colour_granted : 512 ≤ n → any (loose_in k.standing) (graph_of k.standing).size ≡ false →
       colour_outcome (base_of k) (state_of k) n ≡ coloured (register_of (base_of k) (state_of k))
   colour_granted long none = cond-false _ _ _ (le-ltb n 512 long) ∙ cond-false _ _ _ (sym (any_loose_is k) ∙ none)
+
+-- of any base and state, and of a session
+pub coloured_leaves : (b : Base) (s : State) (c : Call) (register : ℕ → ℕ) → coloured register ≡ outcome b s c → s ≡ called b s c
+unfolding left_by
+coloured_leaves b s c register e = ap (left_by s) e
 
 pub coloured_rules : (k : Kept) (c : Call) (register : ℕ → ℕ) → coloured register ≡ outcome (base_of k) (state_of k) c → ByRules k k c (coloured register)
 unfolding left_by

@@ -30,10 +30,10 @@ module _ (k : Kept) (m row : ℕ) where
       merge_shut h = cond-false _ _ _ opens ∙ (cond-true _ _ _ (lt-ltb m _ low) ∙ cond-false _ _ _ (sym (ap (λ (x : Move). x.pending) is) ∙ h))
 
       module _ (open-yet : ends.pending ≡ true) (x y : ℕ) (ex : x ≡ (state_of k).table ends.one) (ey : y ≡ (state_of k).table ends.other) where
-        x_is : x ≡ (state_of k).table (move_at (state_of k) m).one
+        pub x_is : x ≡ (state_of k).table (move_at (state_of k) m).one
         x_is = ex ∙ ap (λ (z : Move). (state_of k).table z.one) is
 
-        y_is : y ≡ (state_of k).table (move_at (state_of k) m).other
+        pub y_is : y ≡ (state_of k).table (move_at (state_of k) m).other
         y_is = ey ∙ ap (λ (z : Move). (state_of k).table z.other) is
 
         merge_open : merge_outcome (base_of k) (state_of k) m row ≡ settled (base_of k) (state_of k) m (move_at (state_of k) m).one (move_at (state_of k) m).other x y

@@ -1,7 +1,8 @@
 -- What every session keeps, told by its meaning. Assumes nothing.
-use Rattle.std.proofs.Common.{◌≡◌, ℕ, ◌+◌, ◌<◌, ◌≤◌, Bool, true, not, ◌&&◌, List, map, length, get_or, ap, ◌∙◌, arith}
+use Rattle.std.proofs.Common.{◌≡◌, ℕ, ◌+◌, ◌<◌, ◌≤◌, min, Bool, true, not, ◌&&◌, List, map, length, get_or, take, ap, ◌∙◌, arith}
 use mathlib.Core.Path.{fun_ext}
 use Rattle.std.proofs.lemmas.Bool.Decides.{nat_tests}
+use Rattle.std.proofs.lemmas.List.{length-take, length-map, get_or-map, get_or-take}
 use Rattle.std.specs.List.{list_any}
 use Rattle.graph.specs.Counting.{count, any}
 use Rattle.graph.specs.Shape.{Shape}
@@ -9,7 +10,7 @@ use Rattle.numbers.specs.Sets.{has}
 use Rattle.board.specs.Boards.{merged_graph as merged_in}
 use Rattle.board.proofs.Boards.{merged_lawful}
 use Rattle.session_laws.specs.Base.{SoundBase}
-use Rattle.session_laws.specs.State.{Move, listed, standing_graph, no_move, waits, has_pending}
+use Rattle.session_laws.specs.State.{Move, listed, standing_graph, move_at, no_move, waits, has_pending}
 use Rattle.session_laws.specs.Invariants.{SoundState}
 use Rattle.session_laws.proofs.Cores.{far_stands}
 use Rattle.session_laws.proofs.Counts.{but, count_less}
@@ -17,7 +18,7 @@ use Rattle.session_laws.proofs.Room.{removed_and_standing}
 use Rattle.session_laws.proofs.Standing.{standing_lawful}
 use Rattle.standing.specs.Standing.{graph_of, is_left, board_of, base_of as base_under}
 use Rattle.standing.proofs.Shapes.{base_sound as base_sound_under}
-use Rattle.kept.specs.Moves.{moves_in, move_of}
+use Rattle.kept.specs.Moves.{moves_in, moves_of, move_of}
 use Rattle.kept.specs.Removed.{groups_in}
 use Rattle.kept.specs.Sound.{SoundKept}
 use Rattle.kept.specs.Kept.{base_of, state_of}
@@ -81,6 +82,27 @@ unfolding state_of
 pending_is k v rows e =
     any_meant move_of (waits (state_of k).table v) rows no_move ∙
     ap (λ (moves : List Move). any (λ i. waits (state_of k).table v (get_or moves i no_move)) (length moves)) e
+
+-- the first n of a row of moves, and what is read of them
+pub moves_of_long : (rows : List Row) (n : ℕ) → n ≤ length rows → length (moves_of rows n) ≡ n
+unfolding moves_of
+moves_of_long rows n h =
+    let a : length (map move_of (take n rows)) ≡ length (take n rows) = length-map (take n rows) move_of in
+    let b : length (take n rows) ≡ min n (length rows) = length-take n rows in
+    omega arith
+
+pub move_in : (rows : List Row) (n m : ℕ) (d : Row) → m < n → n ≤ length rows → get_or (moves_of rows n) m no_move ≡ move_of (get_or rows m d)
+unfolding moves_of
+move_in rows n m d l h =
+    let b : length (take n rows) ≡ min n (length rows) = length-take n rows in
+    get_or-map move_of (take n rows) m d no_move (omega arith) ∙ ap move_of (get_or-take n rows m d l)
+
+pub move_is : (k : Kept) (m : ℕ) (d : Row) → m < k.moves.many → move_at (state_of k) m ≡ move_of (get_or k.moves.moves m d)
+unfolding state_of moves_in moves_of
+move_is k m d l =
+    let whole : length k.moves.moves ≡ 128 = k.moves.whole in
+    let few : k.moves.many ≤ 128 = k.moves.few in
+    move_in k.moves.moves k.moves.many m d l (omega arith)
 
 pub stands_small : (k : Kept) (v : ℕ) → (standing_graph (base_of k) (state_of k)).stands v ≡ true → v < 512
 stands_small k v h =

@@ -1,7 +1,9 @@
 pub mod Chains
 pub mod Closing
 pub mod Told
+pub mod Rows
 pub mod Facts
+pub mod Moving
 pub mod Verdicts
 pub mod After
 pub mod Noting

@@ -1,5 +1,5 @@
 -- A session after a merge. Assumes nothing.
-use Rattle.std.proofs.Common.{◌≡◌, ℕ, ◌<◌, min, max, Bool, false, not, ◌&&◌, eqb, List, length, Some, None, Option, IsSome, sym, refl, ap, ◌∙◌, ap₂, arith}
+use Rattle.std.proofs.Common.{◌≡◌, ℕ, ◌<◌, min, max, Bool, false, not, ◌&&◌, eqb, List, length, get_or, Some, None, Option, IsSome, sym, refl, ap, ◌∙◌, ap₂, arith}
 use Rattle.std.proofs.lemmas.Bool.Decides.{nat_tests}
 use Rattle.board.specs.Boards.{table_of, merged_graph as merged_in, TwoGroups}
 use Rattle.board.specs.declared.board.Board.{Board}
@@ -19,7 +19,8 @@ use Rattle.kept.specs.declared.kept.Kept.{Kept}
 use Rattle.kept.specs.declared.moves.Move.{Move as Row}
 use Rattle.kept.specs.declared.noted.Noted.{Noted}
 use Rattle.kept.proofs.After.{sound_after, state_same, still_left}
-use Rattle.kept.proofs.Facts.{base_sound, state_sound}
+use Rattle.kept.proofs.Facts.{base_sound, state_sound, move_is}
+use Rattle.kept.proofs.Rows.{no_row}
 
 not_below : (j a b : Bool) → (j && (not a && not b)) ≡ false → a ≡ false → b ≡ false → j ≡ false
 not_below j a b h ha hb = grind (arith, nat_tests)
@@ -29,6 +30,16 @@ turned s l e = grind (arith, nat_tests)
 
 pub at_names : (b : Board) (low low' high high' : ℕ) → low ≡ low' → high ≡ high' → TwoGroups b low' high' → TwoGroups b low high
 at_names b low low' high high' e f two = rw (e, f) two
+
+-- the names of the groups of the ends, by the row of the move
+pub ends_are : (k : Kept) (m x y : ℕ) → m < k.moves.many → x ≡ table_of (board_of k.standing) (get_or k.moves.moves m no_row).one →
+    y ≡ table_of (board_of k.standing) (get_or k.moves.moves m no_row).other →
+    (x ≡ (state_of k).table (move_at (state_of k) m).one) × (y ≡ (state_of k).table (move_at (state_of k) m).other)
+unfolding state_of
+ends_are k m x y low ex ey = (
+  ex ∙ sym (ap (λ (z : Move). (state_of k).table z.one) (move_is k m no_row low)),
+  ey ∙ sym (ap (λ (z : Move). (state_of k).table z.other) (move_is k m no_row low)),
+)
 
 -- the names of the groups of the ends of a move, lower and higher
 pub ends_named : (k : Kept) (m : ℕ) (ends : Row) (x y low high : ℕ) → move_of ends ≡ move_at (state_of k) m → x ≡ table_of (board_of k.standing) ends.one →

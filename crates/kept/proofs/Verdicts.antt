@@ -1,13 +1,14 @@
 -- What the tests in the code make of the outcomes. Assumes nothing.
-use Rattle.std.proofs.Common.{◌≡◌, ℕ, ◌<◌, ◌≤◌, Bool, true, false, cond, not, ◌&&◌, ltb, length, sym, refl, ap, ◌∙◌, arith}
+use Rattle.std.proofs.Common.{◌≡◌, ℕ, ◌<◌, ◌≤◌, Bool, true, false, cond, not, ◌&&◌, ◌||◌, ltb, leb, length, sym, refl, ap, ◌∙◌, arith}
 use Rattle.std.proofs.lemmas.Bool.{lt-ltb, le-ltb}
+use Rattle.std.proofs.lemmas.Bool.Decides.{nat_tests}
 use Rattle.graph.specs.Counting.{any}
 use Rattle.graph.specs.Shape.{Shape, degree}
-use Rattle.session_laws.specs.Base.{fixed}
-use Rattle.session_laws.specs.State.{standing_graph, is_loose}
+use Rattle.session_laws.specs.Base.{Base, fixed}
+use Rattle.session_laws.specs.State.{State, standing_graph, is_loose}
 use Rattle.session_laws.specs.Calls.{Call, Outcome, refused, noted}
 use Rattle.session_laws.specs.Outcomes.{outcome, at_vertex, note_outcome, low_degree, some_loose}
-use Rattle.session_laws.specs.Runs.{left_by}
+use Rattle.session_laws.specs.Runs.{called, left_by}
 use Rattle.standing.specs.Standing.{graph_of, fixed_in, light_at, light_loose}
 use Rattle.kept.specs.Kept.{base_of, state_of, ByRules}
 use Rattle.kept.specs.declared.kept.Kept.{Kept}
@@ -77,6 +78,12 @@ by_verdict k v c o said granted condition rule is e = e ∙ (ap (λ x. at_vertex
 
 -- ---- note
 
+outside : (n u v : ℕ) → (leb n u || leb n v) ≡ true → (ltb u n && ltb v n) ≡ false
+outside n u v h = grind (arith, nat_tests)
+
+within : (n u v : ℕ) → (leb n u || leb n v) ≡ false → (ltb u n && ltb v n) ≡ true
+within n u v h = grind (arith, nat_tests)
+
 module _ (k : Kept) (u v n : ℕ) (size : n ≡ (graph_of k.standing).size) where
   high : (w : ℕ) → n ≤ w → ltb w (base_of k).graph.size ≡ false
   high w h = let e : n ≡ (base_of k).graph.size = size ∙ size_is k in le-ltb w _ (omega arith)
@@ -113,6 +120,15 @@ module _ (k : Kept) (u v n : ℕ) (size : n ≡ (graph_of k.standing).size) wher
 
 -- ---- what is left
 
+-- of any base and state
+pub refused_leaves : (b : Base) (s : State) (c : Call) (n : ℕ) → refused n ≡ outcome b s c → s ≡ called b s c
+unfolding left_by
+refused_leaves b s c n e = ap (left_by s) e
+
+pub granted_leaves : (b : Base) (s : State) (c : Call) (o : Outcome) → o ≡ outcome b s c → left_by s o ≡ called b s c
+granted_leaves b s c o e = ap (left_by s) e
+
+-- of a session
 pub refused_rules : (k : Kept) (c : Call) (n : ℕ) → refused n ≡ outcome (base_of k) (state_of k) c → ByRules k k c (refused n)
 unfolding left_by
 refused_rules k c n e = record { answer = e; base = refl; state = ap (left_by (state_of k)) e }

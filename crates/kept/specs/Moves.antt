@@ -10,6 +10,10 @@ use Rattle.kept.specs.declared.refusal.Refusal.TheVariants.{Full}
 abbrev pub move_of : Row → Move
 move_of m = record { one = m.one; other = m.other; pending = m.pending }
 
+-- the first n of a row
+unfoldable pub moves_of : List Row → ℕ → List Move
+moves_of rows n = map move_of (take n rows)
+
 -- in the order of their numbers
 unfoldable pub moves_in : Noted → List Move
 moves_in n = map move_of (take n.many n.moves)

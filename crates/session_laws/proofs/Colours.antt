@@ -50,6 +50,14 @@ pub group_kept : (b : Base) (s : State) (v : ℕ) → listed s.removed v ≡ fal
 unfolding group_register
 group_kept b s v h = painted_kept b (merged_graph b s) (own_number b) s.removed v h
 
+-- where each removed group had a register to spare, each has one, whatever still stands
+group_removed : (b : Base) → SoundBase b → (s : State) → SoundState b s → AllLight b s → (v : ℕ) → listed s.removed v ≡ true →
+    among b.first b.registers (group_register b s v) ≡ true
+unfolding group_register
+group_removed b sb s ss l v h =
+    painted_some (λ _. true) b sb (merged_graph b s) (own_number b) s.removed ss.removed_once
+    (light_spare (λ _. true) b.registers (merged_graph b s) s.removed l) (λ w hw. own_loose b w (ss.removed_loose w hw)) v h refl
+
 pub register_in : (b : Base) (s : State) (v : ℕ) → b.graph.stands v ≡ true → register_of b s v ≡ group_register b s (s.table v)
 register_in b s v h = rw h
 

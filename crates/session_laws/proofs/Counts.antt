@@ -18,6 +18,17 @@ Found p n = (v : ℕ) × (v < n) × (p v ≡ true)
 abbrev pub Nowhere : (ℕ → Bool) → ℕ → Type 0
 Nowhere p n = (v : ℕ) → v < n → p v ≡ false
 
+-- where nothing below n passes, nor n, nothing below the next passes
+nowhere_more : (p : ℕ → Bool) (n : ℕ) → Nowhere p n → p n ≡ false → Nowhere p (suc n)
+nowhere_more p n none e v h = elim (cases_eq v n) [
+  | inl same ↦ rw same e
+  | inr other ↦ none v (omega arith)
+]
+
+-- what passes below n passes below the next
+found_more : (p : ℕ → Bool) (n : ℕ) → Found p n → Found p (suc n)
+found_more p n f = (f.0, (let h = f.1 in omega arith), f.2)
+
 pub any_found : (p : ℕ → Bool) (n : ℕ) → any p n ≡ true → Found p n
 any_found p n e = let w = any_witness p n e in (w.0, w.1.0, w.1.1)
 

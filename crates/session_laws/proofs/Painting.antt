@@ -1,5 +1,5 @@
 -- Giving one vertex after the other the lowest register that is free for it. Assumes nothing.
-use Rattle.std.proofs.Common.{◌≡◌, ℕ, ◌+◌, ◌-◌, ◌<◌, ◌≤◌, Bool, true, false, cond, not, ◌&&◌, eqb, leb, ◌⊎◌, List, [], ◌∷◌, Some, None, Option, sym, refl, ◌∙◌, inl, inr, arith}
+use Rattle.std.proofs.Common.{◌≡◌, ℕ, suc, ◌+◌, ◌-◌, ◌<◌, ◌≤◌, Bool, true, false, cond, not, ◌&&◌, eqb, leb, ◌⊎◌, List, [], ◌∷◌, Some, None, Option, sym, refl, ◌∙◌, inl, inr, arith}
 use Rattle.std.proofs.lemmas.Bool.{cases_Bool, cases_eq, and_parts, and_from, or_cases, or_parts, or_right, eqb-true, eq-eqb, ne_eqb, le-leb, lt-ltb, leb-true, both_ways, not-true, not-false, not_from_false, false_from_ne_true}
 use Rattle.graph.specs.Counting.{count, first}
 use Rattle.graph.proofs.Counting.{any_from, count_whole, first_found, first_missed}
@@ -16,6 +16,14 @@ use Rattle.session_laws.proofs.Cores.{two_ends, far_inside}
 abbrev pub First : (ℕ → Bool) → ℕ → ℕ → Option ℕ → Type 0
 First p from k None = (i : ℕ) → from ≤ i → i < from + k → p i ≡ false
 First p from k (Some r) = (from ≤ r) × (r < from + k) × (p r ≡ true)
+
+-- where the first number fails, the first that passes is that of the later ones
+later : (p : ℕ → Bool) (from k : ℕ) (o : Option ℕ) → First p (suc from) k o → p from ≡ false → First p from (suc k) o
+later p from k None h e = λ i lo hi. elim (cases_eq i from) [
+  | inl same ↦ rw same e
+  | inr other ↦ h i (omega arith) (omega arith)
+]
+later p from k (Some r) h e = let lo : suc from ≤ r = h.0 in let hi : r < suc from + k = h.1 in (omega arith, omega arith, h.2)
 
 pub first_is : (p : ℕ → Bool) (from k : ℕ) → First p from k (first p from k)
 first_is p from k = go (first p from k) refl

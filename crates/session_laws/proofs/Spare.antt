@@ -7,17 +7,18 @@ use Rattle.session_laws.specs.Bank.{among}
 use Rattle.session_laws.specs.Base.{Base, SoundBase, fixed}
 use Rattle.session_laws.specs.State.{State, listed, merged_graph, holds_temporary}
 use Rattle.session_laws.specs.Calls.{Call, Outcome, refused, noted, marked, simplified, frozen, pushed, together, apart, merged, coloured}
-use Rattle.session_laws.specs.Colouring.{register_of}
+use Rattle.session_laws.specs.Colouring.{own_number, group_register, register_of}
 use Rattle.session_laws.specs.Grounds.{GrantedOn, ColouredOn}
 use Rattle.session_laws.specs.Outcomes.{outcome}
 use Rattle.session_laws.specs.Runs.{called, after, left_by, united}
 use Rattle.session_laws.specs.Invariants.{SoundState, SpareList, SparesTemporaries}
-use Rattle.session_laws.proofs.Colours.{name_served, register_in, name_of}
+use Rattle.session_laws.proofs.Colours.{own_loose, name_served, register_in, name_of}
 use Rattle.graph.proofs.Counting.{any_from}
 use Rattle.session_laws.proofs.Counts.{any_found}
 use Rattle.session_laws.proofs.Emptied.{group_merging}
 use Rattle.session_laws.proofs.Granting.{grounds}
 use Rattle.session_laws.proofs.Light.{merged_spare, simplified_light}
+use Rattle.session_laws.proofs.Painting.{painted_some}
 use Rattle.session_laws.proofs.Pairs.{groups_of}
 use Rattle.session_laws.proofs.Runs.{keeps}
 use Rattle.session_laws.proofs.Standing.{stands_parts, Stands}
@@ -85,6 +86,14 @@ pub spare_run : (b : Base) → SoundBase b → (cs : List Call) (s : State) → 
 spare_run b sb [] s ss l = l
 spare_run b sb (c ∷ cs) s ss l =
     spare_run b sb cs (called b s c) (keeps b sb s ss c).sound (keeps_spare b sb s ss (outcome b s c) (grounds b sb s c) l)
+
+-- a removed group with a temporary has a register, whatever still stands
+group_served : (b : Base) → SoundBase b → (s : State) → SoundState b s → SparesTemporaries b s → (v : ℕ) → listed s.removed v ≡ true →
+    holds_temporary b s v ≡ true → among b.first b.registers (group_register b s v) ≡ true
+unfolding group_register
+group_served b sb s ss l v h p =
+    painted_some (holds_temporary b s) b sb (merged_graph b s) (own_number b) s.removed ss.removed_once l
+    (λ w hw. own_loose b w (ss.removed_loose w hw)) v h p
 
 -- a granted colour gives every vertex a register whose group holds a temporary
 pub temporaries_served : (b : Base) → SoundBase b → (s : State) → SoundState b s → SparesTemporaries b s → (register : ℕ → ℕ) → ColouredOn b s register →

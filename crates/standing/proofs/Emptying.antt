@@ -49,6 +49,22 @@ still : (fixed : ℕ → Bool) (k : ℕ) (s : Shape) (c : ℕ → Bool) → firs
 still fixed k s c none zero = refl
 still fixed k s c none (suc n) = ap (λ (o : Option ℕ). left_of fixed k s n (without c o)) none ∙ still fixed k s c none n
 
+-- one turn
+pub one_less : (fixed : ℕ → Bool) (k : ℕ) (s : Shape) (n i : ℕ) (c d : ℕ → Bool) → i < n →
+    d ≡ without c (first (light_in fixed k s c) 0 s.size) → left_of fixed k s (n - (i + 1)) d ≡ left_of fixed k s (n - i) c
+one_less fixed k s n i c d l e =
+    let step : n - i ≡ suc (n - (i + 1)) = omega arith in
+    rw step (ap (λ (x : ℕ → Bool). left_of fixed k s (n - (i + 1)) x) e)
+
+-- nothing comes in: what is left after some turns was there before
+fewer : (c : ℕ → Bool) (o : Option ℕ) (v : ℕ) → without c o v ≡ true → c v ≡ true
+fewer c None v h = h
+fewer c (Some u) v h = (and_parts (c v) (not (eqb v u)) h).0
+
+pub left_in : (fixed : ℕ → Bool) (k : ℕ) (s : Shape) (n : ℕ) (c : ℕ → Bool) (v : ℕ) → left_of fixed k s n c v ≡ true → c v ≡ true
+left_in fixed k s zero c v h = h
+left_in fixed k s (suc n) c v h = fewer c (first (light_in fixed k s c) 0 s.size) v (left_in fixed k s n (without c (first (light_in fixed k s c) 0 s.size)) v h)
+
 -- where nothing light is left, further turns change nothing
 pub peel_end : (fixed : ℕ → Bool) (k : ℕ) (s : Shape) (start c : ℕ → Bool) → first (light_in fixed k s c) 0 s.size ≡ None →
     Peeled fixed k s start c → c ≡ left_of fixed k s s.size start

@@ -1,5 +1,5 @@
 -- What a standing graph means. Assumes nothing.
-use Rattle.std.specs.Prelude.{ℕ, Bool, ◌&&◌, nat_lt}
+use Rattle.std.specs.Prelude.{ℕ, Bool, not, ◌&&◌, List, ◌==◌, nat_lt, slice_index}
 use Rattle.graph.specs.Shape.{Shape, degree}
 use Rattle.graph.specs.Views.{keeping}
 use Rattle.numbers.specs.Sets.{has}
@@ -41,3 +41,7 @@ light_at s v = nat_lt (degree (graph_of s) v) (registers_of s)
 
 abbrev pub light_loose : Standing → ℕ → Bool
 light_loose s v = loose_in s v && light_at s v
+
+-- whether the row of marks has one for w
+abbrev pub marked : List ℕ → ℕ → Bool
+marked marks w = not (slice_index marks w == 0)

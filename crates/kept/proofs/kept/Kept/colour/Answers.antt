@@ -32,5 +32,5 @@ returns c =
     let n = length c.args.table.now in
     record {
       rules = coloured_rules k (colour n) _ (sym (outcome_colour (base_of k) (state_of k) n ∙ colour_granted k n c.if-table-lt512.false (sym c.if-any_loose.ensures)));
-      table = (λ v l. c.fill.ensures.each v l ∙ registers_are k c.paint-groups.result c.paint-groups.ensures v, c.fill.ensures.rest);
+      table = (λ v l. c.fill.ensures.each v l ∙ registers_are k c.paint-groups.result c.paint-groups.ensures.each v, c.fill.ensures.rest);
     }
