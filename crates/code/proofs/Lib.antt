@@ -1,1 +1,3 @@
+pub mod Pushing
 pub mod Asking
+pub mod OwnMaps

@@ -1,5 +1,6 @@
 pub mod SoFar
 pub mod Granting
+pub mod Assembling
 pub mod ClassBits
 pub mod HeaderTrip
 pub mod RowsTrip

@@ -1,5 +1,5 @@
 -- What holds of the records that were read so far.
-use Rattle.std.proofs.Common.{◌≡◌, ℕ, zero, suc, ◌+◌, ◌-◌, ◌<◌, Bool, List, [], ◌∷◌, ◌++◌, length, take, set, sym, refl, ap, ◌∙◌, append_assoc, append-nil, add-zero, add-suc, add-one, arith, length-append, length-set}
+use Rattle.std.proofs.Common.{◌≡◌, ℕ, zero, suc, ◌+◌, ◌-◌, ◌<◌, Bool, false, List, [], ◌∷◌, ◌++◌, length, take, set, sym, refl, ap, ◌∙◌, append_assoc, append-nil, add-zero, add-suc, add-one, arith, length-append, length-set}
 use Rattle.std.proofs.lemmas.List.{take_more_set, length_push}
 use Rattle.code.specs.Codes.{rows_of}
 use Rattle.code.specs.Rows.{Fields}
@@ -13,13 +13,14 @@ use Rattle.records.proofs.RoundTrip.{record_sound}
 use Rattle.formula.specs.Formulas as formulas
 use Rattle.formula.specs.Starts.{starts_from}
 
-pub record SoFar (l : Limits) (bytes : List ℕ) (at reach numbers i : ℕ) (code : Code) (starts : List ℕ) (last : ℕ) (closed : Bool) (place : ℕ) : Type 0 where
+-- i records were read, and their places were put into a row of `most` places
+pub record SoFar (l : Limits) (bytes : List ℕ) (at reach numbers most i : ℕ) (code : Code) (starts : List ℕ) (last : ℕ) (closed : Bool) (place : ℕ) : Type 0 where
   pub value : formulas.rows_at l bytes at i ≡ got (record { rows = rows_of code; last = last }) place
   pub placed : place ≡ at + length (rows_bytes (rows_of code))
   pub reached : code.reach ≡ reach
   pub numbered : code.numbers ≡ numbers
   pub many : length (rows_of code) ≡ i
-  pub whole : length starts ≡ reach
+  pub whole : length starts ≡ most
   pub began : take i starts ≡ starts_from at (rows_of code)
   pub ended : closed ≡ formulas.closed (rows_of code)
 
@@ -43,11 +44,25 @@ pub rows_bad : (l : Limits) (bytes : List ℕ) (at i d n p : ℕ) → formulas.r
 rows_bad l bytes at i zero n p e = rw add-zero e
 rows_bad l bytes at i (suc d) n p e = rw (add-suc i d, rows_bad l bytes at i d n p e) refl
 
-module _ {l : Limits} {bytes : List ℕ} {at reach numbers i : ℕ} {code : Code} {starts : List ℕ} {last : ℕ} {closed : Bool} {place : ℕ}
-    (so : SoFar l bytes at reach numbers i code starts last closed place) where
-  pub so_far_more : {f : Fields} {q : ℕ} {code' : Code} → Bytes bytes → i < reach → record_at l bytes place ≡ got f q
+pub so_far_none : (l : Limits) (bytes : List ℕ) (at reach numbers most : ℕ) (code : Code) (starts : List ℕ)
+    → rows_of code ≡ [] → code.reach ≡ reach → code.numbers ≡ numbers → length starts ≡ most
+    → SoFar l bytes at reach numbers most 0 code starts at false at
+so_far_none l bytes at reach numbers most code starts none r n whole = record {
+  value = rw none refl;
+  placed = rw none (sym (add-zero at));
+  reached = r;
+  numbered = n;
+  many = rw none refl;
+  whole = whole;
+  began = rw none refl;
+  ended = rw none refl;
+}
+
+module _ {l : Limits} {bytes : List ℕ} {at reach numbers most i : ℕ} {code : Code} {starts : List ℕ} {last : ℕ} {closed : Bool} {place : ℕ}
+    (so : SoFar l bytes at reach numbers most i code starts last closed place) where
+  pub so_far_more : {f : Fields} {q : ℕ} {code' : Code} → Bytes bytes → i < most → record_at l bytes place ≡ got f q
       → rows_of code' ≡ rows_of code ++ (f ∷ []) → code'.reach ≡ code.reach → code'.numbers ≡ code.numbers
-      → SoFar l bytes at reach numbers (i + 1) code' (set starts i place) place (formulas.goes_nowhere f) q
+      → SoFar l bytes at reach numbers most (i + 1) code' (set starts i place) place (formulas.goes_nowhere f) q
   so_far_more {f = f} {q = q} ok less e rows r n =
       let sound = record_sound bytes ok l place f q e in
       let inside : i < length starts = omega (arith, so.whole) in

@@ -99,24 +99,26 @@ module _ (rows : List Fields) (family : List NumberSet) (i : ℕ) where
         | inr ne ↦ sound k v (sym (in_set_other family i k v s ne) ∙ e)
       ]
 
--- one row's set as it was read, with what is asked for there, and the two taken together
-module _ (rows : List Fields) (family : List NumberSet) (i : ℕ) (d fresh all : NumberSet) (inside : i < length family)
-    (new : (v : ℕ) → has fresh v ≡ asked rows family i v) (both : (v : ℕ) → has all v ≡ (has (get_or family i d) v || has fresh v)) where
-  at : (v : ℕ) → has (get_or family i d) v ≡ in_set family i v
-  at v = sym (in_set_at family i v d inside)
+-- the set of one row, read from the row of sets
+pub set_read : (family : List NumberSet) (i : ℕ) (d : NumberSet) → i < length family → (v : ℕ) → has (get_or family i d) v ≡ in_set family i v
+set_read family i d inside v = sym (in_set_at family i v d inside)
 
+-- one row's set as it was read, with what is asked for there, and the two taken together
+module _ (rows : List Fields) (family : List NumberSet) (i : ℕ) (old fresh all : NumberSet)
+    (at : (v : ℕ) → has old v ≡ in_set family i v) (new : (v : ℕ) → has fresh v ≡ asked rows family i v)
+    (both : (v : ℕ) → has all v ≡ (has old v || has fresh v)) where
   -- where the two together are no more than the one, the sets are closed there
-  pub closed_still : ((v : ℕ) → has all v ≡ has (get_or family i d) v) → Closed rows family i
+  pub closed_still : ((v : ℕ) → has all v ≡ has old v) → Closed rows family i
   closed_still same =
       closed_when rows family i (λ v e.
-      sym (at v) ∙ (sym (same v) ∙ (both v ∙ or_right (has (get_or family i d) v) (has fresh v) (new v ∙ e))))
+      sym (at v) ∙ (sym (same v) ∙ (both v ∙ or_right (has old v) (has fresh v) (new v ∙ e))))
 
-  pub sound_taken : Sound rows family → Sound rows (set family i all)
-  sound_taken sound =
+  pub sound_taken : i < length family → Sound rows family → Sound rows (set family i all)
+  sound_taken inside sound =
       sound_more rows family i all inside sound (λ v. let a = at v in let n = new v in let b = both v in cc)
 
-  pub lacking_taken : ((k : ℕ) × (has (get_or family i d) k ≡ false) × (has all k ≡ true)) → lacking (set family i all) < lacking family
-  lacking_taken more =
+  pub lacking_taken : i < length family → ((k : ℕ) × (has old k ≡ false) × (has all k ≡ true)) → lacking (set family i all) < lacking family
+  lacking_taken inside more =
       lacking_less family i all more.0 inside
-      (λ k e. both k ∙ or_left (has (get_or family i d) k) (has fresh k) (at k ∙ e))
+      (λ k e. both k ∙ or_left (has old k) (has fresh k) (at k ∙ e))
       (sym (at more.0) ∙ more.1) more.2

@@ -1,7 +1,7 @@
 -- The laws of membership in a row of words.
 use Rattle.std.proofs.Common.{◌≡◌, ℕ, ◌+◌, ◌-◌, ◌*◌, ◌/◌, ◌%◌, ◌^◌, ◌<◌, ◌≤◌, Bool, true, false, cond, not, ◌&&◌, ◌||◌, eqb, ltb, ◌≢◌, List, [], ◌∷◌, length, suc, sum_by, get_or, set, sym, refl, ap, ap₂, ◌∙◌, inl, inr, arith, get_or-set_other, get_or-set_same}
 use lib.Bits.{bit_and, bit_or}
-use lib.Count.{count_trailing_zeros}
+use lib.Count.{ones, count_trailing_zeros}
 use lib.ListN.{get_or-eq_default}
 use lib.Pow.{pow-lt}
 use Rattle.std.proofs.Math.Bool.{and-true, and-false, or-false}
@@ -12,7 +12,7 @@ use Rattle.std.proofs.lemmas.List.Sums.{sum_by-cons}
 use Rattle.numbers.specs.Counting.{count}
 use Rattle.numbers.specs.Words.{bit, member}
 use Rattle.numbers.proofs.Counting.{count_zero, count_same, count_split}
-use Rattle.numbers.proofs.Words.{bit_below, bit_zero, bit-bit_or, bit_and_not, bit_pow, bit_shift, lowest}
+use Rattle.numbers.proofs.Words.{bit_below, bit_zero, bit-bit_or, bit_and_not, bit_pow, bit_shift, lowest, ones_count}
 
 member_is : (ws : List ℕ) (k : ℕ) → member ws k ≡ bit (get_or ws (k / 64) 0) (k % 64)
 unfolding member
@@ -86,11 +86,13 @@ member_remove ws n k e h =
 
 -- ---- two rows, word by word
 
+-- each digit of the words below n is f of the digits of two rows
+abbrev pub Joins : (Bool → Bool → Bool) → List ℕ → List ℕ → List ℕ → ℕ → Type 0
+Joins f xs ys ws n = (i : ℕ) → i < n → (j : ℕ) → j < 64 → bit (get_or ws i 0) j ≡ f (bit (get_or xs i 0) j) (bit (get_or ys i 0) j)
+
 -- where each digit of the words is f of the digits of two rows, so is each member
 pub joined : (f : Bool → Bool → Bool) (xs ys ws : List ℕ) (k : ℕ) → f false false ≡ false
-    → length xs ≡ 8 → length ys ≡ 8 → length ws ≡ 8
-    → ((i : ℕ) → i < 8 → (j : ℕ) → j < 64 → bit (get_or ws i 0) j ≡ f (bit (get_or xs i 0) j) (bit (get_or ys i 0) j))
-    → member ws k ≡ f (member xs k) (member ys k)
+    → length xs ≡ 8 → length ys ≡ 8 → length ws ≡ 8 → Joins f xs ys ws 8 → member ws k ≡ f (member xs k) (member ys k)
 unfolding member
 joined f xs ys ws k z a b c h =
     elim (cases_lt (k / 64) 8) [
@@ -102,7 +104,24 @@ joined f xs ys ws k z a b c h =
           rw (get_or-eq_default xs 0 p, get_or-eq_default ys 0 q, get_or-eq_default ws 0 r, bit_zero (k % 64)) (sym z)
     ]
 
+-- one more word written
+pub joins_more : (f : Bool → Bool → Bool) (xs ys ws : List ℕ) (n v : ℕ) → n < length ws → Joins f xs ys ws n
+    → ((j : ℕ) → j < 64 → bit v j ≡ f (bit (get_or xs n 0) j) (bit (get_or ys n 0) j)) → Joins f xs ys (set ws n v) (n + 1)
+joins_more f xs ys ws n v l h here i g j m =
+    elim (cases_eq i n) [
+      | inl s ↦ rw (s, get_or-set_same ws n v 0 l) (here j m)
+      | inr d ↦ rw (get_or-set_other ws n i v 0 d) (h i (omega arith) j m)
+    ]
+
 -- ---- counting
+
+-- one more word of the row counts one more word's digits
+pub count_word : (ws : List ℕ) (i : ℕ) → get_or ws i 0 < 2 ^ 64
+    → count (member ws) (i * 64 + 64) ≡ count (member ws) (i * 64) + ones (get_or ws i 0)
+count_word ws i h =
+    count_split (member ws) (i * 64) 64
+    ∙ ap (λ x. count (member ws) (i * 64) + x)
+    (count_same (λ j. member ws (i * 64 + j)) (bit (get_or ws i 0)) 64 (λ j l. member_at ws i j l) ∙ sym (ones_count 64 (get_or ws i 0) h))
 
 -- behind the first word stand the members of the rest
 member_behind : (w : ℕ) (ws : List ℕ) (j : ℕ) → member (w ∷ ws) (64 + j) ≡ member ws j
@@ -144,7 +163,7 @@ pub found_rest : (ws : List ℕ) (from r : ℕ) → r ≡ get_or ws (from / 64) 
     → (from % 64 + count_trailing_zeros 64 r < 64) × (member ws (from + count_trailing_zeros 64 r) ≡ true)
     × ((j : ℕ) → from ≤ j → j < from + count_trailing_zeros 64 r → member ws j ≡ false)
 found_rest ws from r e h p q =
-    let low = lowest r p q in
+    let low = lowest 64 r p q in
     let inside : from % 64 + count_trailing_zeros 64 r < 64 =
     bit_below 64 (get_or ws (from / 64) 0) (from % 64 + count_trailing_zeros 64 r) h
     (sym (bit_shift (get_or ws (from / 64) 0) (from % 64) (count_trailing_zeros 64 r)) ∙ rw (← e) low.1) in (
@@ -157,9 +176,11 @@ found_rest ws from r e h p q =
 
 -- ---- a run of numbers from 0 on
 
-pub filled : (n : ℕ) (ws : List ℕ) (k : ℕ) → length ws ≡ 8
-    → ((i : ℕ) → i < 8 → (j : ℕ) → j < 64 → bit (get_or ws i 0) j ≡ ltb (i * 64 + j) n)
-    → member ws k ≡ (ltb k n && ltb k 512)
+-- each digit of the words below m is set for the numbers below n
+abbrev pub Fills : ℕ → List ℕ → ℕ → Type 0
+Fills n ws m = (i : ℕ) → i < m → (j : ℕ) → j < 64 → bit (get_or ws i 0) j ≡ ltb (i * 64 + j) n
+
+pub filled : (n : ℕ) (ws : List ℕ) (k : ℕ) → length ws ≡ 8 → Fills n ws 8 → member ws k ≡ (ltb k n && ltb k 512)
 filled n ws k e h =
     elim (cases_lt k 512) [
       | inl l ↦
@@ -167,3 +188,19 @@ filled n ws k e h =
           member_is ws k ∙ h (k / 64) (omega arith) (k % 64) (omega arith) ∙ rw (name, lt-ltb k 512 l) (sym (and-true (ltb k n)))
       | inr g ↦ member_large ws k e g ∙ rw (le-ltb k 512 g) (sym (and-false (ltb k n)))
     ]
+
+-- one more word filled
+pub fills_more : (n : ℕ) (ws : List ℕ) (m v : ℕ) → m < length ws → Fills n ws m
+    → ((j : ℕ) → j < 64 → bit v j ≡ ltb j (n - m * 64)) → Fills n (set ws m v) (m + 1)
+fills_more n ws m v l h here i g j b =
+    elim (cases_eq i m) [
+      | inl s ↦ rw (s, get_or-set_same ws m v 0 l) (here j b ∙ shifted)
+      | inr d ↦ rw (get_or-set_other ws m i v 0 d) (h i (omega arith) j b)
+    ]
+  where
+    shifted : ltb j (n - m * 64) ≡ ltb (m * 64 + j) n
+    shifted =
+        elim (cases_lt (m * 64 + j) n) [
+          | inl q ↦ lt-ltb j (n - m * 64) (omega arith) ∙ sym (lt-ltb (m * 64 + j) n q)
+          | inr q ↦ le-ltb j (n - m * 64) (omega arith) ∙ sym (le-ltb (m * 64 + j) n q)
+        ]

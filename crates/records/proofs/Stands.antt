@@ -41,6 +41,11 @@ stands_at input at xs k all less =
     sym (get_or-drop at input k 0) ∙ (sym (get_or-take (length xs) (drop at input) k 0 less) ∙ ap (λ l. get_or l k 0) all)
 
 -- bytes that are there stand there
+pub stands_part : (input : List ℕ) (at size : ℕ) → at + size ≤ length input → Stands input at (take size (drop at input))
+stands_part input at size within =
+    let e : length (take size (drop at input)) ≡ size = simp (length-take, length-drop) (omega arith) in
+    ap (λ n. take n (drop at input)) e
+
 pub stands_byte : (input : List ℕ) (at : ℕ) → at + 1 ≤ length input → Stands input at (get_or input at 0 ∷ [])
 stands_byte input at within = let less : at < length input = omega arith in rw (drop_more input at 0 less)
 

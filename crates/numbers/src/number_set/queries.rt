@@ -1,5 +1,5 @@
 // What a set holds, asked word by word.
-ghost use Rattle.std.specs.Prelude.{◌≡◌, ℕ, ◌+◌, ◌-◌, ◌*◌, ◌/◌, ◌<◌, ◌≤◌, true, false, IfSome, IfNone};
+ghost use Rattle.std.specs.Prelude.{◌≡◌, ℕ, ◌+◌, ◌-◌, ◌*◌, ◌/◌, ◌<◌, ◌≤◌, true, false, length, sum_by, IfSome, IfNone};
 ghost use Rattle.numbers.specs.Counting.{count, first};
 ghost use Rattle.numbers.specs.Sets.{has};
 ghost use Rattle.numbers.specs.Words.{bit};
@@ -19,7 +19,7 @@ impl NumberSet {
         ensures value { result ≡ count (has self.now) 512 }
         ensures bound { result ≤ 512 }
     {
-        self.words.iter().map(|w| digits_in(*w)).sum()
+        digits_in_all(&self.words)
     }
 
     // The lowest member that is not below `from`.
@@ -52,6 +52,14 @@ impl NumberSet {
         // as in `digits_in`
         Some(from + rest.trailing_zeros() as usize)
     }
+}
+
+// How many digits of a few words are set.
+fn digits_in_all(words: &[u64]) -> usize
+    requires { length words.now ≤ 8 }
+    ensures { result ≡ sum_by (λ w. count (bit w) 64) words.now }
+{
+    words.iter().map(|w| digits_in(*w)).sum()
 }
 
 // How many digits of a word are set.

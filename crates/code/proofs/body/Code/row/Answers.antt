@@ -10,6 +10,6 @@ pub returns : goal.returns
 unfolding rows_of
 returns c =
     let rows = take c.args.self.now.len c.args.self.now.rows in
-    let kept : c.copied.result ≡ slice_get rows c.args.place = grind (arith, common_steps, slice_get_cases c.rows.result.now c.args.place) in
+    let kept : c.copied.result ≡ slice_get rows c.args.place = grind (arith, common_steps, slice_get_cases rows c.args.place) in
     let mapped = slice_get-map fields rows c.args.place in
     record { value = cc; bound = row_within c.args.self.now c.args.place c.copied.result kept }

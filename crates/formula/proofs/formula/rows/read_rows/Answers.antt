@@ -1,4 +1,4 @@
-use Rattle.std.proofs.Common.{◌≡◌, ◌<◌, true, [], ◌∷◌, ◌++◌, length, add-zero, length-take, sym, refl, ◌∙◌, arith}
+use Rattle.std.proofs.Common.{◌≡◌, ◌<◌, true, [], ◌∷◌, ◌++◌, length, take, replicate, length-take, sym, refl, ◌∙◌, arith}
 use Rattle.std.proofs.lemmas.List.{length-replicate}
 use Rattle.std.proofs.lemmas.Result.{err_from_is_err_and}
 use Rattle.code.specs.Codes.{rows_of, takes}
@@ -9,7 +9,7 @@ use Rattle.fields.specs.Reading.{got, bad}
 use Rattle.records.specs.Records.{record_at}
 use Rattle.records.proofs.RoundTrip.{record_sound}
 use Rattle.formula.proofs.Granting.{granted}
-use Rattle.formula.proofs.SoFar.{so_far_more, so_far_bad}
+use Rattle.formula.proofs.SoFar.{so_far_none, so_far_more, so_far_bad}
 use Rattle.formula.proofs.formula.rows.read_rows.Goals as goal
 
 pub returns-in_err-record-clause-value : goal.returns-in_err-record-clause-value
@@ -42,17 +42,9 @@ loop-start-preserved c =
 
 pub loop-start-init : goal.loop-start-init
 loop-start-init c =
-    let none = c.requires.empty in (
-      rw c.new-reader.ensures.1 record {
-        value = rw none refl;
-        placed = rw none (sym (add-zero c.args.at));
-        reached = refl;
-        numbered = refl;
-        many = rw none refl;
-        whole = grind (arith, length-take, length-replicate);
-        began = rw none refl;
-        ended = rw none refl;
-      },
+    let code = c.args.code in (
+      rw c.new-reader.ensures.1 (so_far_none c.args.limits.now c.args.bytes.now c.args.at code.reach code.numbers code.reach
+          code (take c.reach-count.result (replicate 128 0)) c.requires.empty refl refl (grind (arith, length-take, length-replicate))),
       c.new-reader.ensures.0,
     )
 

@@ -1,7 +1,5 @@
-use Rattle.std.proofs.Common.{◌≡◌, ◌^◌, ◌*◌, ◌≤◌, length, rules, sum_by, sym, ap, ◌∙◌, arith}
-use Rattle.std.proofs.iter.runs.Made.{chains}
-use Rattle.std.proofs.lemmas.Iterator.{YieldsList-from_slice}
-use Rattle.std.proofs.lemmas.Iterator.Adapters.{fits_from_length, at_most_from_yields_List}
+use Rattle.std.proofs.Common.{◌≡◌, ℕ, ◌*◌, ◌≤◌, List, length, take, rules, sum_by, sym, ap, ◌∙◌, arith}
+use Rattle.std.proofs.lemmas.List.{take_all}
 use Rattle.numbers.specs.Counting.{count}
 use Rattle.numbers.specs.Sets.{has}
 use Rattle.numbers.specs.Words.{bit}
@@ -9,17 +7,17 @@ use Rattle.numbers.proofs.Counting.{count_le}
 use Rattle.numbers.proofs.Rows.{count_words}
 use Rattle.numbers.proofs.number_set.NumberSet.len.Goals as goal
 
-pub sum-requires-clause-fits : goal.sum-requires-clause-fits
-sum-requires-clause-fits c =
-    let few : length c.args.self.now.words ≤ 8 = omega (arith, c.args.self.now.whole) in
-    fits_from_length _ _ 8 (2 ^ 64) (at_most_from_yields_List (YieldsList-from_slice c.args.self.now.words cc) few) c.map.ensures.closure (omega arith) (λ x r q k. search rules)
+-- the words counted may be cut out as a part, where that is all of them
+from_part : (digits : ℕ → ℕ) (total : ℕ) (words : List ℕ) → length words ≤ 8 → total ≡ sum_by digits (take 8 words) → total ≡ sum_by digits words
+from_part digits total words h e = e ∙ ap (sum_by digits) (take_all 8 words h)
 
 pub returns : goal.returns
 unfolding has
 returns c =
     let s = c.args.self.now in
-    let total : c.sum.result ≡ sum_by (λ w. count (bit w) 64) s.words = search (rules, chains) in
+    let few : length s.words ≤ 8 = omega (arith, s.whole) in
+    let total : c.digits_in_all.result ≡ sum_by (λ w. count (bit w) 64) s.words = search (rules, from_part) in
     let size : length s.words * 64 ≡ 512 = omega (arith, s.whole) in
-    let value : c.sum.result ≡ count (has s) 512 = total ∙ (sym (count_words s.words) ∙ ap (count (has s)) size) in
+    let value : c.digits_in_all.result ≡ count (has s) 512 = total ∙ (sym (count_words s.words) ∙ ap (count (has s)) size) in
     let most : count (has s) 512 ≤ 512 = count_le (has s) 512 in
     record { value = value; bound = omega arith }
