@@ -45,8 +45,8 @@ use Rattle.edges.specs.contracts.edge_table.EdgeTable as table
 use Rattle.edges.proofs.edge_table.EdgeTable.TheLaws as table_laws
 use Rattle.edges.specs.contracts.edge_table.EdgeTable.check as g
 use Rattle.edges.proofs.edge_table.EdgeTable.check.Met.{met as checks}
-use Rattle.edges.specs.contracts.edge_table.EdgeTable.open as h
-use Rattle.edges.proofs.edge_table.EdgeTable.open.Met.{met as opens}
+use Rattle.edges.specs.contracts.edge_table.EdgeTable.granted as h
+use Rattle.edges.proofs.edge_table.EdgeTable.granted.Met.{met as opens}
 use Rattle.edges.specs.contracts.edge_table.EdgeTable.try_open as f
 use Rattle.edges.proofs.edge_table.EdgeTable.try_open.Statement.{statement}
 use Rattle.edges.proofs.edge_table.EdgeTable.try_open.Code as code
@@ -107,7 +107,7 @@ try_open_spec 𝓤 𝓛 𝓜 𝓡 wired =
     let x : Open.Ghost = ((κs, qs, tt, a, (uint_vals w64 n, (mut_slice_vals m, tt))), tt) in
     nothing ! $ move ! (1 ∷ 0 ∷ []) $ join ! $ owned ! usize _ (uint_Makes 𝓛 w64) n _ (refl, fits) $ join ! $ nothing ! $ move ! (2 ∷ 0 ∷ []) $ join ! $ join ! $
     use0 𝓛 (raw (fact 𝓤 (opening ≡ Ok tt))) (fact_i 𝓤 _ (emp 𝓤) (sym is_opening ∙ granted)) $ move ! (1 ∷ 0 ∷ []) $ use2 𝓛 (raw (Open.pre x)) (id⊢ 𝓤 _) $
-    calls_at ! run Open (opens 𝓤 𝓛 𝓜 𝓡 (code.calls-edges::edge_table::EdgeTable::open 𝓡.env wired)) x (and_then ! (get ! refl) (and_then ! (get ! refl) (no_more !))) (λ u.
+    calls_at ! run Open (opens 𝓤 𝓛 𝓜 𝓡 (code.calls-edges::edge_table::EdgeTable::granted 𝓡.env wired)) x (and_then ! (get ! refl) (and_then ! (get ! refl) (no_more !))) (λ u.
     use1 𝓛 (later (some (λ (t : Table.Denot). ((‵ (flft κ q) ⊛ ‵ ftrue) ⊛ ‵ (Table.own_val t (u ∷ []))) ⊛
     some (λ (ws : Unit {0} × (Unit {0} × Unit {0})). ‵ (lasts h.ended x.0.0 x.0.3 ws) ⊛ raw (fact 𝓤 (t.n ≡ n)) ⊛ raw (fact 𝓤 (t.words.now ≡ replicate (length m.now) 0)) ⊛ raw (fact 𝓤 (t.words.ghost_name ≡ m.ghost_name)) ⊛
     raw (fact 𝓤 (table_meaning t.n t.words.now ≡ empty_store n (length m.now / 2))))))) (id⊢ 𝓤 _) $

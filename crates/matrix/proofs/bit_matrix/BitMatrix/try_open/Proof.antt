@@ -46,8 +46,8 @@ use Rattle.matrix.specs.contracts.bit_matrix.BitMatrix as matrix
 use Rattle.matrix.proofs.bit_matrix.BitMatrix.TheLaws as matrix_laws
 use Rattle.matrix.specs.contracts.bit_matrix.BitMatrix.check as g
 use Rattle.matrix.proofs.bit_matrix.BitMatrix.check.Met.{met as checks}
-use Rattle.matrix.specs.contracts.bit_matrix.BitMatrix.open as h
-use Rattle.matrix.proofs.bit_matrix.BitMatrix.open.Met.{met as opens}
+use Rattle.matrix.specs.contracts.bit_matrix.BitMatrix.granted as h
+use Rattle.matrix.proofs.bit_matrix.BitMatrix.granted.Met.{met as opens}
 use Rattle.matrix.specs.contracts.bit_matrix.BitMatrix.try_open as f
 use Rattle.matrix.proofs.bit_matrix.BitMatrix.try_open.Statement.{statement}
 use Rattle.matrix.proofs.bit_matrix.BitMatrix.try_open.Code as code
@@ -108,7 +108,7 @@ try_open_spec 𝓤 𝓛 𝓜 𝓡 wired =
     let x : Open.Ghost = ((κs, qs, tt, a, (uint_vals w64 n, (mut_slice_vals m, tt))), tt) in
     nothing ! $ move ! (1 ∷ 0 ∷ []) $ join ! $ owned ! usize _ (uint_Makes 𝓛 w64) n _ (refl, fits) $ join ! $ nothing ! $ move ! (2 ∷ 0 ∷ []) $ join ! $ join ! $
     use0 𝓛 (raw (fact 𝓤 (opening ≡ Ok tt))) (fact_i 𝓤 _ (emp 𝓤) (sym is_opening ∙ granted)) $ move ! (1 ∷ 0 ∷ []) $ use2 𝓛 (raw (Open.pre x)) (id⊢ 𝓤 _) $
-    calls_at ! run Open (opens 𝓤 𝓛 𝓜 𝓡 (code.calls-matrix::bit_matrix::BitMatrix::open 𝓡.env wired)) x (and_then ! (get ! refl) (and_then ! (get ! refl) (no_more !))) (λ u.
+    calls_at ! run Open (opens 𝓤 𝓛 𝓜 𝓡 (code.calls-matrix::bit_matrix::BitMatrix::granted 𝓡.env wired)) x (and_then ! (get ! refl) (and_then ! (get ! refl) (no_more !))) (λ u.
     use1 𝓛 (later (some (λ (t : Matrix.Denot). ((‵ (flft κ q) ⊛ ‵ ftrue) ⊛ ‵ (Matrix.own_val t (u ∷ []))) ⊛
     some (λ (ws : Unit {0} × (Unit {0} × Unit {0})). ‵ (lasts h.ended x.0.0 x.0.3 ws) ⊛ raw (fact 𝓤 (t.n ≡ n)) ⊛ raw (fact 𝓤 (t.bits.now ≡ cleared (bytes_for n) m.now)) ⊛ raw (fact 𝓤 (t.bits.ghost_name ≡ m.ghost_name)) ⊛
     raw (fact 𝓤 (matrix_meaning t.n t.bits.now ≡ empty_store n (triangle n))))))) (id⊢ 𝓤 _) $
